@@ -1,0 +1,6 @@
+pub mod Empties
+pub mod Faults
+pub mod Maps
+pub mod Octets
+pub mod Pieces
+pub mod Readings

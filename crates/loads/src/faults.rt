@@ -1,0 +1,30 @@
+// Why octets or a buffer are turned down, by fixed numbers.
+ghost use mathlib.Core.Path.{_≡_};
+ghost use Rattle.loads.specs.Faults.{numberOf};
+
+// A refusal of a reader, a writer or the book.
+#[derive(Clone, Copy, Debug, PartialEq, Eq)]
+pub enum Fault {
+    // The octets are not as many as the kind has, or the buffer is too short for them.
+    WrongLength,
+    // The frame's kind is not the kind that is read.
+    WrongKind,
+    // The fields are no piece of a map tile.
+    OutsideRanges,
+    // The book's loads found no memory.
+    NoMemory,
+}
+
+impl Fault {
+    // The number by which this refusal is known outside.
+    pub fn number(&self) -> u8
+        ensures answer { λ r. ⌜ r ≡ numberOf (now (self .entry)) ⌝ }
+    {
+        match self {
+            Fault::WrongLength => 14,
+            Fault::WrongKind => 15,
+            Fault::OutsideRanges => 16,
+            Fault::NoMemory => 255,
+        }
+    }
+}

@@ -1,0 +1,47 @@
+// The reading: a 32-bit number from the trail.
+ghost use Rattle.loads.specs.Readings.{readingSpelled, readingReads};
+use crate::faults::Fault;
+use crate::kinds::Load;
+use crate::octets::value_of;
+
+// A number that a hut or a trail sensor reports.
+#[derive(Clone, Copy, Debug, PartialEq, Eq)]
+pub struct Reading {
+    pub value: u32,
+}
+
+pub impl Load for Reading as ReadingLoad {
+    ghost kind = { 1 };
+
+    ghost size = { 4 };
+
+    ghost spelled = { readingSpelled };
+
+    ghost reads = { readingReads };
+
+    fn kind_number() -> u8 {
+        1
+    }
+
+    fn octet_count() -> usize {
+        4
+    }
+
+    fn read(octets: &[u8]) -> Result<Reading, Fault> {
+        if octets.len() != 4 {
+            return Err(Fault::WrongLength);
+        }
+        Ok(Reading {
+            value: value_of(octets) as u32,
+        })
+    }
+
+    fn write(&self, buffer: &mut [u8]) -> Result<(), Fault> {
+        let octets = self.value.to_be_bytes();
+        if buffer.len() < 4 {
+            return Err(Fault::WrongLength);
+        }
+        buffer[0..4].copy_from_slice(&octets);
+        Ok(())
+    }
+}
