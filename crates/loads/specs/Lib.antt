@@ -1,5 +1,6 @@
 pub mod Empties
 pub mod Faults
+pub mod Frames
 pub mod Maps
 pub mod Octets
 pub mod Pieces

@@ -1,6 +1,7 @@
 // What a frame carries, the frame itself, and both as octets.
 mod empties;
 mod faults;
+mod frames;
 mod kinds;
 mod octets;
 mod pieces;
@@ -9,6 +10,7 @@ mod readings;
 pub use empties::EmptyLoad;
 pub use empties::EmptyLoadLoad;
 pub use faults::Fault;
+pub use frames::Frame;
 pub use kinds::Load;
 pub use pieces::Piece;
 pub use pieces::making::PieceLoad;
