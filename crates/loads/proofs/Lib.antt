@@ -1,4 +1,5 @@
 pub mod Behind
+pub mod BookLaws
 pub mod Buffers
 pub mod FrameLaws
 pub mod PieceLaws

@@ -1,3 +1,4 @@
+pub mod Books
 pub mod Empties
 pub mod Faults
 pub mod Frames

@@ -1,6 +1,8 @@
 // Why octets or a buffer are turned down, by fixed numbers.
 ghost use mathlib.Core.Path.{_≡_};
 ghost use Rattle.loads.specs.Faults.{numberOf};
+ghost use Rattle.loads.specs.declared.faults.Fault.the-variants.{NoMemory};
+use std::alloc::Refused;
 
 // A refusal of a reader, a writer or the book.
 #[derive(Clone, Copy, Debug, PartialEq, Eq)]
@@ -26,5 +28,13 @@ impl Fault {
             Fault::OutsideRanges => 16,
             Fault::NoMemory => 255,
         }
+    }
+}
+
+pub impl<T: Drop> From<Refused<T>> for Fault as FaultFromRefused {
+    ghost converts = { λ _ r. r ≡ NoMemory };
+
+    fn from(_refused: Refused<T>) -> Fault {
+        Fault::NoMemory
     }
 }

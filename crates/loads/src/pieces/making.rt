@@ -75,7 +75,13 @@ pub impl Load for Piece as PieceLoad {
         if buffer.len() < 19 {
             return Err(Fault::WrongLength);
         }
-        let Piece { zoom, column, row, number, body } = *self;
+        let Piece {
+            zoom,
+            column,
+            row,
+            number,
+            body,
+        } = *self;
         buffer[0] = zoom;
         buffer[1..5].copy_from_slice(&column.to_be_bytes());
         buffer[5..9].copy_from_slice(&row.to_be_bytes());

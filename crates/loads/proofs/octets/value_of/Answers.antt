@@ -20,10 +20,9 @@ loop-octet-again c =
     let octets = c .args .octets .now in
     let i = c .loop-octet .octet-index in
     let more = number-more 256 octets i (c .loop-octet-test .taken) in
-    let small : c .from .result < 256 = omega (arith, c .typed .octets i) in
-    (
-        omega (arith, more),
-        below-more i (c .loop-octet .value) (c .from .result) (c .loop-octet .inv .1) small,
+    let small : c .from .result < 256 = omega (arith, c .typed .octets i) in (
+      omega (arith, more),
+      below-more i (c .loop-octet .value) (c .from .result) (c .loop-octet .inv .1) small,
     )
 
 pub returns : need.returns
