@@ -18,7 +18,7 @@ use Rattle.loads.specs.Octets.{written, filled}
 abbrev pub behind : List ℕ → List ℕ
 behind buffer = take (length buffer - 1) (drop 1 buffer)
 
-abbrev answered : Bool → Result (Unit {0}) Fault
+abbrev pub answered : Bool → Result (Unit {0}) Fault
 answered fits = cond fits (Ok tt) (Err WrongLength)
 
 put-behind : (x : ℕ) (xs rest : List ℕ) → putMid 1 (length (x ∷ xs) - 1) (x ∷ xs) rest ≡ x ∷ rest

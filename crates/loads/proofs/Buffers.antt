@@ -4,7 +4,7 @@ use mathlib.Core.List.{List, [], _∷_, _++_}
 use Prim.Native.Nat.{ℕ, suc, _+_, _≤_, _<_}
 use borrow.Rule.Slice.PartMut.{putMid}
 use native.Mathlib.Omega.{arith}
-use lib.ListN.{length, drop, set}
+use lib.ListN.{length, take, drop, set}
 use borrow.Author.Tests.{le-leb}
 use Rattle.loads.specs.Octets.{filled}
 use Rattle.std.proofs.shelf.Lists.{append-assoc, length-append, take-at, drop-at, drop-drop, set-split}
@@ -36,3 +36,9 @@ put-parts o c r n b buffer lc lr ln lb some =
 -- a writer whose octets fit fills the front
 pub filled-fits : (octets buffer : List ℕ) → length octets ≤ length buffer → filled octets buffer ≡ octets ++ drop (length octets) buffer
 filled-fits octets buffer fits = rw (le-leb (length octets) (length buffer) fits)
+
+-- and what it filled is there to read
+pub take-filled : (octets buffer : List ℕ) (size : ℕ) → length octets ≡ size → size ≤ length buffer → take size (filled octets buffer) ≡ octets
+take-filled octets buffer size long room =
+    let fits : length octets ≤ length buffer = omega arith in
+    ap (take size) (filled-fits octets buffer fits) ∙ take-at octets (drop (length octets) buffer) size long

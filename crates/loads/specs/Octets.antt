@@ -30,3 +30,7 @@ written octets buffer = cond (leb (length octets) (length buffer)) (Ok tt) (Err 
 -- a writer's buffer after it: the octets at its front and the rest as before, or all as before where it is refused
 abbrev pub filled : List ℕ → List ℕ → List ℕ
 filled octets buffer = cond (leb (length octets) (length buffer)) (octets ++ drop (length octets) buffer) buffer
+
+-- what a value of `size` octets comes to, written into a buffer and read from its front: itself, or refused for want of room
+abbrev pub returned : {X : Type 0} → ℕ → X → List ℕ → Result X Fault
+returned size value buffer = cond (leb size (length buffer)) (Ok value) (Err WrongLength)

@@ -1,8 +1,12 @@
 // Why octets or a buffer are turned down, by fixed numbers.
 ghost use mathlib.Core.Path.{_≡_};
-ghost use Rattle.loads.specs.Faults.{numberOf};
+ghost use Rattle.std.specs.declared.option.Option.the-variants.{Some};
+ghost use Rattle.loads.specs.Faults.{numberOf, faultText};
 ghost use Rattle.loads.specs.declared.faults.Fault.the-variants.{NoMemory};
+use std::alloc::AllocError;
 use std::alloc::Refused;
+use std::error::Error;
+use std::fmt;
 
 // A refusal of a reader, a writer or the book.
 #[derive(Clone, Copy, Debug, PartialEq, Eq)]
@@ -28,6 +32,25 @@ impl Fault {
             Fault::OutsideRanges => 16,
             Fault::NoMemory => 255,
         }
+    }
+}
+
+pub impl fmt::Display for Fault as FaultDisplay {
+    ghost shown = { λ fault. Some (faultText fault) };
+
+    fn fmt<W: fmt::Write>(&self, f: &mut fmt::Formatter<W>) -> fmt::Result {
+        let number = self.number();
+        write!(f, "refused {number}")
+    }
+}
+
+pub impl Error for Fault as FaultError {}
+
+pub impl From<AllocError> for Fault as FaultFromAlloc {
+    ghost converts = { λ _ r. r ≡ NoMemory };
+
+    fn from(_error: AllocError) -> Fault {
+        Fault::NoMemory
     }
 }
 

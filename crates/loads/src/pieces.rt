@@ -8,10 +8,10 @@ pub(crate) mod making;
 // A part of a map tile: which tile (zoom, column and row), which part of it (number), and its 64 bits (body).
 #[derive(Clone, Copy, Debug, PartialEq, Eq)]
 pub struct Piece {
-    zoom: u8,
-    column: u32,
-    row: u32,
-    number: u16,
-    body: u64,
+    pub zoom: u8,
+    pub column: u32,
+    pub row: u32,
+    pub number: u16,
+    pub body: u64,
     ghost held: { onMap zoom column row ≡ true },
 }

@@ -33,12 +33,6 @@ impl Piece {
             body,
         })
     }
-
-    pub fn zoom(&self) -> u8
-        ensures answer { λ r. ⌜ r ≡ now (self .entry) .zoom ⌝ }
-    {
-        self.zoom
-    }
 }
 
 pub impl Load for Piece as PieceLoad {

@@ -1,0 +1,3 @@
+pub mod AnyFrames
+pub mod Hexadecimals
+pub mod Lines
