@@ -32,7 +32,7 @@ frameText (Piece f) =
     ++ (codes " column " ++ (decimal (f .load .column)
     ++ (codes " row " ++ (decimal (f .load .row)
     ++ (codes " number " ++ (decimal (f .load .number)
-    ++ (codes " body " ++ decimal (f .load .body)))))))))) 
+    ++ (codes " body " ++ decimal (f .load .body))))))))))
 
 -- a frame's text, or the number that turns octets down
 abbrev pub answerText : Result AnyFrame Fault → List ℕ

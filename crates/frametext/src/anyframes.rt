@@ -23,7 +23,7 @@ impl AnyFrame {
     pub fn read(octets: &[u8]) -> Result<AnyFrame, Fault>
         ensures answer { λ r. ⌜ r ≡ anyReads (now (octets .entry)) ⌝ }
     {
-        if octets.len() == 0 {
+        if octets.is_empty() {
             return Err(Fault::WrongLength);
         }
         match octets[0] % 32 {

@@ -12,12 +12,16 @@ fn digit(n: u8) -> char
     requires { ⌜ n < 16 ⌝ }
     ensures answer { λ r. ⌜ r ≡ digitOf n ⌝ }
 {
-    if n < 10 { char::from(b'0' + n) } else { char::from(b'A' + (n - 10)) }
+    if n < 10 {
+        char::from(b'0' + n)
+    } else {
+        char::from(b'A' + (n - 10))
+    }
 }
 
 // Two digits for each octet, and nothing between them.
 pub fn hexadecimal(heap: Global, octets: &[u8]) -> Result<String, AllocError>
-    ensures answer { λ r. ⌜ made r (λ text. string-bytes text ≡ hexadecimalOf (now (octets .entry))) ⌝ }
+    ensures made { λ r. ⌜ made r (λ text. string-bytes text ≡ hexadecimalOf (now (octets .entry))) ⌝ }
 {
     let mut text = String::new(heap);
     for octet in octets {

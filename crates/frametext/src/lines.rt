@@ -29,7 +29,7 @@ fn on_off(bit: bool) -> &'static str
 
 // The three bits of a frame.
 fn bits_text(heap: Global, first: bool, last: bool, toggle: bool) -> Result<String, AllocError>
-    ensures answer { λ r. ⌜ made r (λ text. string-bytes text ≡ bitsText first last toggle) ⌝ }
+    ensures made { λ r. ⌜ made r (λ text. string-bytes text ≡ bitsText first last toggle) ⌝ }
 {
     let first = on_off(first);
     let last = on_off(last);
@@ -39,7 +39,7 @@ fn bits_text(heap: Global, first: bool, last: bool, toggle: bool) -> Result<Stri
 
 // The bits and the load of a frame.
 fn frame_text(heap: Global, frame: AnyFrame) -> Result<String, AllocError>
-    ensures answer { λ r. ⌜ made r (λ text. string-bytes text ≡ frameText frame) ⌝ }
+    ensures made { λ r. ⌜ made r (λ text. string-bytes text ≡ frameText frame) ⌝ }
 {
     match frame {
         AnyFrame::Empty(frame) => {
@@ -58,14 +58,17 @@ fn frame_text(heap: Global, frame: AnyFrame) -> Result<String, AllocError>
             let row = frame.load.row;
             let number = frame.load.number;
             let body = frame.load.body;
-            format!(heap, "{bits}, piece zoom {zoom} column {column} row {row} number {number} body {body}")
+            format!(
+                heap,
+                "{bits}, piece zoom {zoom} column {column} row {row} number {number} body {body}"
+            )
         }
     }
 }
 
 // What octets spell, or the number that turns them down.
 fn spelled_text(heap: Global, octets: &[u8]) -> Result<String, AllocError>
-    ensures answer { λ r. ⌜ made r (λ text. string-bytes text ≡ spelledText (now (octets .entry))) ⌝ }
+    ensures made { λ r. ⌜ made r (λ text. string-bytes text ≡ spelledText (now (octets .entry))) ⌝ }
 {
     match AnyFrame::read(octets) {
         Ok(frame) => frame_text(heap, frame),
@@ -75,7 +78,7 @@ fn spelled_text(heap: Global, octets: &[u8]) -> Result<String, AllocError>
 
 // A label, the octets in hexadecimal, and what they spell or the number that turns them down.
 pub fn frame_line(heap: Global, label: &str, octets: &[u8]) -> Result<String, AllocError>
-    ensures answer { λ r. ⌜ made r (λ text. string-bytes text ≡ line (now (label .entry)) (now (octets .entry))) ⌝ }
+    ensures made { λ r. ⌜ made r (λ text. string-bytes text ≡ line (now (label .entry)) (now (octets .entry))) ⌝ }
 {
     let hexadecimals = hexadecimal(heap, octets)?;
     let text = spelled_text(heap, octets)?;
@@ -92,8 +95,13 @@ fn change(octets: &mut [u8], place: usize, octet: u8)
 }
 
 // Two lines: octets as they are, and with the one at a place changed.
-fn changed_lines(heap: Global, octets: &mut [u8], place: usize, octet: u8) -> Result<String, AllocError>
-    ensures answer { λ r. ⌜ made r (λ text. string-bytes text ≡ lines (now (octets .entry)) place octet) ⌝ }
+fn changed_lines(
+    heap: Global,
+    octets: &mut [u8],
+    place: usize,
+    octet: u8,
+) -> Result<String, AllocError>
+    ensures made { λ r. ⌜ made r (λ text. string-bytes text ≡ lines (now (octets .entry)) place octet) ⌝ }
 {
     let wrote = frame_line(heap, "wrote", octets)?;
     change(octets, place, octet);
@@ -102,8 +110,13 @@ fn changed_lines(heap: Global, octets: &mut [u8], place: usize, octet: u8) -> Re
 }
 
 // Two lines: a frame as it is written, and a copy of it with the octet at a place changed.
-pub fn frame_lines<T: Load>(heap: Global, frame: &Frame<T>, place: usize, octet: u8) -> Result<String, Fault>
-    ensures answer { λ r. ⌜ Cases r (λ text. string-bytes text ≡ lines (frameSpelled kind spelled (now (frame .entry))) place octet) (λ fault. fault ≡ NoMemory) ⌝ }
+pub fn frame_lines<T: Load>(
+    heap: Global,
+    frame: &Frame<T>,
+    place: usize,
+    octet: u8,
+) -> Result<String, Fault>
+    ensures cases { λ r. ⌜ Cases r (λ text. string-bytes text ≡ lines (frameSpelled kind spelled (now (frame .entry))) place octet) (λ fault. fault ≡ NoMemory) ⌝ }
 {
     let mut buffer = [0; LONGEST_FRAME];
     frame.write(&mut buffer)?;

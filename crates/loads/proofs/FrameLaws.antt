@@ -1,9 +1,8 @@
 -- What a frame's octets read as, and that a frame comes back from them. Assumes nothing.
 use mathlib.Core.Path.{_≡_, refl, sym, ap, _∙_}
 use mathlib.Core.Bool.{Bool, true, false, cond}
-use mathlib.Core.List.{List, _∷_}
+use mathlib.Core.List.{List}
 use Prim.Native.Nat.{ℕ, suc, _+_, _*_, _/_, _%_, _^_, _≤_, _<_}
-use native.Mathlib.Numerals.{add-one}
 use native.Mathlib.Omega.{arith}
 use borrow.Author.Tests.{eq-eqb, ne-eqb}
 use lib.Bits.{bitAnd}
@@ -15,7 +14,7 @@ use Rattle.std.proofs.shelf.Bits.{and-mask}
 use Rattle.loads.specs.declared.faults.Fault.{Fault}
 use Rattle.loads.specs.declared.faults.Fault.the-variants.{WrongKind}
 use Rattle.loads.specs.declared.frames.Frame.{Frame}
-use Rattle.loads.specs.Frames.{bitAt, bitOn, header, frameSpelled, framed, frameReads}
+use Rattle.loads.specs.Frames.{bitAt, frameSpelled, framed, frameReads}
 
 -- a bit as a number
 abbrev unit : Bool → ℕ

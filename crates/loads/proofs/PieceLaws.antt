@@ -1,14 +1,11 @@
 -- A piece comes back from its fields and from its octets. Assumes nothing.
-use mathlib.Core.Path.{_≡_, refl, sym, ap, _∙_}
+use mathlib.Core.Path.{_≡_, refl, ap, _∙_}
 use mathlib.Core.Bool.{Bool, true, false, Bool-set}
 use Prim.Native.Nat.{ℕ}
 use borrow.Author.Tests.{clash}
-use Rattle.std.specs.declared.result.Result.{Result}
-use Rattle.std.specs.declared.result.Result.the-variants.{Ok, Err}
+use Rattle.std.specs.declared.result.Result.the-variants.{Ok}
 use Rattle.loads.specs.declared.pieces.Piece.{Piece}
-use Rattle.loads.specs.declared.faults.Fault.{Fault}
 use Rattle.loads.specs.Maps.{onMap}
-use Rattle.loads.specs.Octets.{bigEndian}
 use Rattle.loads.specs.Pieces.{whenTrue, pieceOf, pieceSpelled, pieceReads}
 use Rattle.loads.proofs.Values.{value-back}
 

@@ -19,7 +19,7 @@ pub struct Book<T> {
 impl<T: Load> Book<T> {
     // At most `count` loads, up to the first record that spells none.
     pub fn read(heap: Global, count: usize, octets: &[u8]) -> Result<Book<T>, Fault>
-        ensures answer { λ r. ⌜ Cases r (λ book. loadsOf book ≡ bookReads size reads count (now (octets .entry))) (λ fault. fault ≡ NoMemory) ⌝ }
+        ensures cases { λ r. ⌜ Cases r (λ book. loadsOf book ≡ bookReads size reads count (now (octets .entry))) (λ fault. fault ≡ NoMemory) ⌝ }
     {
         let size = T::octet_count();
         let mut loads = Vec::new(heap);

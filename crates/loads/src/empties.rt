@@ -1,5 +1,4 @@
 // The empty load, which rides on replies.
-ghost use mathlib.Core.List.{[]};
 ghost use Rattle.loads.specs.Empties.{emptySpelled, emptyReads};
 use crate::faults::Fault;
 use crate::kinds::Load;
@@ -26,7 +25,7 @@ pub impl Load for EmptyLoad as EmptyLoadLoad {
     }
 
     fn read(octets: &[u8]) -> Result<EmptyLoad, Fault> {
-        if octets.len() != 0 {
+        if !octets.is_empty() {
             return Err(Fault::WrongLength);
         }
         Ok(EmptyLoad)

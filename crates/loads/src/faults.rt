@@ -23,8 +23,8 @@ pub enum Fault {
 
 impl Fault {
     // The number by which this refusal is known outside.
-    pub fn number(&self) -> u8
-        ensures answer { λ r. ⌜ r ≡ numberOf (now (self .entry)) ⌝ }
+    pub fn number(self) -> u8
+        ensures answer { λ r. ⌜ r ≡ numberOf self ⌝ }
     {
         match self {
             Fault::WrongLength => 14,

@@ -1,9 +1,6 @@
 // The frame: three bits and a load, and its octets.
 ghost use mathlib.Core.Path.{_≡_};
-ghost use mathlib.Core.Bool.{cond};
-ghost use Prim.Native.Nat.{_+_, _<_};
-ghost use lib.Dec.{ltb};
-ghost use lib.ListN.{length};
+ghost use Prim.Native.Nat.{_<_};
 ghost use Rattle.loads.specs.Frames.{bitAt, bitOn, header as headerOf, frameSpelled, frameReads};
 ghost use Rattle.loads.specs.Octets.{written, filled};
 use crate::faults::Fault;
@@ -48,7 +45,7 @@ impl<T: Load> Frame<T> {
         ensures answer { λ r. ⌜ r ≡ written (frameSpelled kind spelled (now (self .entry))) (now (buffer .entry)) ⌝ }
         ensures after { λ _. ⌜ now (buffer .exit) ≡ filled (frameSpelled kind spelled (now (self .entry))) (now (buffer .entry)) ⌝ }
     {
-        if buffer.len() == 0 {
+        if buffer.is_empty() {
             return Err(Fault::WrongLength);
         }
         self.load.write(&mut buffer[1..])?;

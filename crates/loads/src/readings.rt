@@ -4,6 +4,9 @@ use crate::faults::Fault;
 use crate::kinds::Load;
 use crate::octets::value_of;
 
+// The octets of a reading.
+const SIZE: usize = 4;
+
 // A number that a hut or a trail sensor reports.
 #[derive(Clone, Copy, Debug, PartialEq, Eq)]
 pub struct Reading {
@@ -24,11 +27,11 @@ pub impl Load for Reading as ReadingLoad {
     }
 
     fn octet_count() -> usize {
-        4
+        SIZE
     }
 
     fn read(octets: &[u8]) -> Result<Reading, Fault> {
-        if octets.len() != 4 {
+        if octets.len() != SIZE {
             return Err(Fault::WrongLength);
         }
         Ok(Reading {
@@ -38,10 +41,10 @@ pub impl Load for Reading as ReadingLoad {
 
     fn write(&self, buffer: &mut [u8]) -> Result<(), Fault> {
         let octets = self.value.to_be_bytes();
-        if buffer.len() < 4 {
+        if buffer.len() < SIZE {
             return Err(Fault::WrongLength);
         }
-        buffer[0..4].copy_from_slice(&octets);
+        buffer[0..SIZE].copy_from_slice(&octets);
         Ok(())
     }
 }

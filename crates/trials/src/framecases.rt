@@ -95,7 +95,10 @@ fn a_frame_is_read_at_its_length() -> Result<(), Fail> {
     check_eq(number_of(Frame::<Reading>::read(&[])), 14)?;
     check_eq(number_of(Frame::<Reading>::read(&[0x81, 0, 0, 0])), 14)?;
     check_eq(number_of(Frame::<Reading>::read(&[0x81, 0, 0, 0, 7])), 0)?;
-    check_eq(number_of(Frame::<Reading>::read(&[0x81, 0, 0, 0, 7, 0])), 14)?;
+    check_eq(
+        number_of(Frame::<Reading>::read(&[0x81, 0, 0, 0, 7, 0])),
+        14,
+    )?;
     check_eq(number_of(Frame::<EmptyLoad>::read(&[0x60, 0])), 14)?;
     check_eq(number_of(Frame::<Piece>::read(&[0x82, 21])), 14)
 }

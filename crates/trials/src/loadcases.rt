@@ -83,7 +83,12 @@ fn a_reading_is_four_octets() -> Result<(), Fail> {
     let mut octets = [0xEE; 5];
     check_eq(Reading { value: 0x0102_0304 }.write(&mut octets), Ok(()))?;
     check_eq(octets, [1, 2, 3, 4, 0xEE])?;
-    check_eq(Reading::read(&[255, 255, 255, 255]), Ok(Reading { value: 4_294_967_295 }))?;
+    check_eq(
+        Reading::read(&[255, 255, 255, 255]),
+        Ok(Reading {
+            value: 4_294_967_295,
+        }),
+    )?;
     check_eq(number_of(Reading::read(&[1, 2, 3])), 14)?;
     check_eq(number_of(Reading::read(&[1, 2, 3, 4, 5])), 14)
 }
@@ -101,7 +106,27 @@ fn a_reading_needs_four_octets_of_room() -> Result<(), Fail> {
 #[test]
 fn a_piece_is_nineteen_octets() -> Result<(), Fail> {
     let piece = Piece::new(20, 0x000A_0B0C, 0x000D_0E0F, 0x1011, 0x1213_1415_1617_1819)?;
-    let spelled = [20, 0, 0x0A, 0x0B, 0x0C, 0, 0x0D, 0x0E, 0x0F, 0x10, 0x11, 0x12, 0x13, 0x14, 0x15, 0x16, 0x17, 0x18, 0x19];
+    let spelled = [
+        20,
+        0,
+        0x0A,
+        0x0B,
+        0x0C,
+        0,
+        0x0D,
+        0x0E,
+        0x0F,
+        0x10,
+        0x11,
+        0x12,
+        0x13,
+        0x14,
+        0x15,
+        0x16,
+        0x17,
+        0x18,
+        0x19,
+    ];
     let mut octets = [0; 19];
     check_eq(piece.write(&mut octets), Ok(()))?;
     check_eq(octets, spelled)?;
@@ -116,7 +141,31 @@ fn a_piece_needs_nineteen_octets_of_room() -> Result<(), Fail> {
     check_eq(short, [0xEE; 18])?;
     let mut long = [0xEE; 20];
     check_eq(number_of(piece.write(&mut long)), 0)?;
-    check_eq(long, [1, 0, 0, 0, 1, 0, 0, 0, 0, 0, 2, 0, 0, 0, 0, 0, 0, 0, 3, 0xEE])
+    check_eq(
+        long,
+        [
+            1,
+            0,
+            0,
+            0,
+            1,
+            0,
+            0,
+            0,
+            0,
+            0,
+            2,
+            0,
+            0,
+            0,
+            0,
+            0,
+            0,
+            0,
+            3,
+            0xEE,
+        ],
+    )
 }
 
 // The last octet of column and of row, and what reading the piece at zoom 1 answers.
@@ -125,7 +174,27 @@ const READ_EDGES: [(u8, u8, u8); 4] = [(1, 1, 0), (2, 1, 16), (1, 2, 16), (2, 2,
 #[test]
 fn a_piece_is_read_within_the_map() -> Result<(), Fail> {
     for (column, row, number) in READ_EDGES {
-        let octets = [1, 0, 0, 0, column, 0, 0, 0, row, 0, 0, 0, 0, 0, 0, 0, 0, 0, 0];
+        let octets = [
+            1,
+            0,
+            0,
+            0,
+            column,
+            0,
+            0,
+            0,
+            row,
+            0,
+            0,
+            0,
+            0,
+            0,
+            0,
+            0,
+            0,
+            0,
+            0,
+        ];
         check_eq(number_of(Piece::read(&octets)), number)?;
     }
     check_eq(number_of(Piece::read(&[20; 18])), 14)?;
@@ -150,5 +219,8 @@ fn loads_come_back() -> Result<(), Fail> {
     let piece = Piece::new(20, 1, 2, 3, 4)?;
     check_eq(load_comes_back(&piece, &mut buffer), Ok(piece))?;
     check_eq(number_of(load_comes_back(&piece, &mut buffer[0..18])), 14)?;
-    check_eq(load_comes_back(&EmptyLoad, &mut buffer[0..0]), Ok(EmptyLoad))
+    check_eq(
+        load_comes_back(&EmptyLoad, &mut buffer[0..0]),
+        Ok(EmptyLoad),
+    )
 }

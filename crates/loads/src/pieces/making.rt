@@ -1,4 +1,4 @@
-// A piece made from its fields, its fields, and the piece as octets.
+// The piece made from its fields, and as octets.
 ghost use mathlib.Core.Path.{_≡_};
 ghost use Rattle.loads.specs.Maps.{onMap};
 ghost use Rattle.loads.specs.Pieces.{pieceOf, pieceSpelled, pieceReads};
@@ -9,6 +9,9 @@ use crate::pieces::Piece;
 
 // The highest zoom that a map is drawn at.
 const ZOOM_LIMIT: u8 = 20;
+
+// The octets of a piece.
+const SIZE: usize = 19;
 
 // Whether a map has the tile of this zoom, column and row.
 fn on_map(zoom: u8, column: u32, row: u32) -> bool
@@ -49,11 +52,11 @@ pub impl Load for Piece as PieceLoad {
     }
 
     fn octet_count() -> usize {
-        19
+        SIZE
     }
 
     fn read(octets: &[u8]) -> Result<Piece, Fault> {
-        if octets.len() != 19 {
+        if octets.len() != SIZE {
             return Err(Fault::WrongLength);
         }
         Piece::new(
@@ -66,7 +69,7 @@ pub impl Load for Piece as PieceLoad {
     }
 
     fn write(&self, buffer: &mut [u8]) -> Result<(), Fault> {
-        if buffer.len() < 19 {
+        if buffer.len() < SIZE {
             return Err(Fault::WrongLength);
         }
         let Piece {

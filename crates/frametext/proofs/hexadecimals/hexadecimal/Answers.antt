@@ -18,9 +18,9 @@ loop-octet-again c =
     let high : c .digit .result < 128 = rw (c .digit .ensures .answer) (digit-ascii _ (omega arith)) in
     let low : c .digit-in-loop-octet .result < 128 = rw (c .digit-in-loop-octet .ensures .answer) (digit-ascii _ (omega arith)) in
     let one : string-bytes (c .push .last .self) ≡ done ++ (c .digit .result ∷ []) =
-        pushed (c .digit .result ∷ []) refl (c .in-Continue-push .was tt) (rw (c .push .ensures .ascii high) at (c .push .ensures .bytes)) in
+    pushed (c .digit .result ∷ []) refl (c .in-Continue-push .was tt) (rw (c .push .ensures .ascii high) at (c .push .ensures .bytes)) in
     let two : string-bytes (c .push-in-loop-octet .last .self) ≡ (done ++ (c .digit .result ∷ [])) ++ (c .digit-in-loop-octet .result ∷ []) =
-        pushed (c .digit-in-loop-octet .result ∷ []) one (c .in-Continue-push-2 .was tt) (rw (c .push-in-loop-octet .ensures .ascii low) at (c .push-in-loop-octet .ensures .bytes)) in
+    pushed (c .digit-in-loop-octet .result ∷ []) one (c .in-Continue-push-2 .was tt) (rw (c .push-in-loop-octet .ensures .ascii low) at (c .push-in-loop-octet .ensures .bytes)) in
     ap (λ text. text ++ hexadecimalOf (drop (i + 1) octets)) two
     ∙ octet-more octets i _ _ done (c .loop-octet-test .taken) (c .digit .ensures .answer) (c .digit-in-loop-octet .ensures .answer)
     ∙ c .loop-octet .inv
@@ -29,4 +29,4 @@ pub returns : need.returns
 returns c =
     let octets = c .args .octets .now in
     let i = c .loop-octet .octet-index in
-    record { answer = sym (ap (λ rest. string-bytes (c .loop-octet .text) ++ hexadecimalOf rest) (drop-all i octets (c .loop-octet-test .left)) ∙ append-nil _) ∙ c .loop-octet .inv }
+    record { made = sym (ap (λ rest. string-bytes (c .loop-octet .text) ++ hexadecimalOf rest) (drop-all i octets (c .loop-octet-test .left)) ∙ append-nil _) ∙ c .loop-octet .inv }

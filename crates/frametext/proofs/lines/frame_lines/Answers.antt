@@ -16,4 +16,4 @@ returns g c =
     let long : length octets ≡ kind .size + 1 = omega (arith, laws .sized (c .args .frame .now .load)) in
     let room : kind .size + 1 ≤ 32 = omega (arith, laws .«size_bound») in
     let front = (λ i. take (end i) (c .write .ensures .after i)) ∙ take-filled octets (replicate 32 0) (kind .size + 1) long room in
-    record { answer = c .in-Continue-changed-lines .ensures tt .answer ∙ ap (λ os. lines os (c .args .place) (c .args .octet)) front }
+    record { cases = c .in-Continue-changed-lines .ensures tt .made ∙ ap (λ os. lines os (c .args .place) (c .args .octet)) front }

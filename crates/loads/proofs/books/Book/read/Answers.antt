@@ -6,7 +6,6 @@ use lib.ListN.{take, drop, length-take}
 use Rattle.std.proofs.Told.{chosen}
 use Rattle.std.specs.Results.{isOk}
 use Rattle.std.specs.Of.Vec.{vec-items}
-use Rattle.std.specs.declared.result.Result.the-variants.{Ok, Err}
 use Rattle.loads.specs.Books.{bookReads}
 use Rattle.loads.proofs.BookLaws.{book-more, book-ends, book-full}
 use Rattle.loads.proofs.books.Book.read.Needs as need
@@ -50,4 +49,4 @@ returns g c =
           let cut = w .split-at .ensures .front ∙ ap (λ n. take n rest) (c .octet-count-size .ensures .answer) in
           book-ends (kind .size) (kind .reads) (count - i) done rest _ (sym (w .in-rest .ensures tt .answer ∙ ap (kind .reads) cut))
     ] in
-    record { answer = sym ended ∙ c .loop-i .inv }
+    record { cases = sym ended ∙ c .loop-i .inv }
