@@ -8,9 +8,9 @@ use Rattle.std.specs.declared.result.Result.{Result}
 use Rattle.std.specs.declared.result.Result.the-variants.{Ok, Err}
 use Rattle.loads.specs.declared.faults.Fault.{Fault}
 use Rattle.loads.specs.declared.faults.Fault.the-variants.{WrongLength, WrongKind}
-use Rattle.loads.specs.Empties.{emptyReads}
-use Rattle.loads.specs.Readings.{readingReads}
-use Rattle.loads.specs.Pieces.{pieceReads}
+use Rattle.loads.specs.Empties.{emptyKind, emptySize, emptyReads}
+use Rattle.loads.specs.Readings.{readingKind, readingSize, readingReads}
+use Rattle.loads.specs.Pieces.{pieceKind, pieceSize, pieceReads}
 use Rattle.loads.specs.Frames.{frameReads}
 use Rattle.frametext.specs.declared.anyframes.AnyFrame.{AnyFrame}
 use Rattle.frametext.specs.declared.anyframes.AnyFrame.the-variants.{Empty, Reading, Piece}
@@ -23,9 +23,9 @@ anyOf of (Err fault) = Err fault
 -- the frame of a kind, refused where no load has that kind
 abbrev pub ofKind : ℕ → List ℕ → Result AnyFrame Fault
 ofKind kind octets =
-    cond (eqb kind 0) (anyOf Empty (frameReads 0 0 emptyReads octets))
-    (cond (eqb kind 1) (anyOf Reading (frameReads 1 4 readingReads octets))
-    (cond (eqb kind 2) (anyOf Piece (frameReads 2 19 pieceReads octets))
+    cond (eqb kind emptyKind) (anyOf Empty (frameReads emptyKind emptySize emptyReads octets))
+    (cond (eqb kind readingKind) (anyOf Reading (frameReads readingKind readingSize readingReads octets))
+    (cond (eqb kind pieceKind) (anyOf Piece (frameReads pieceKind pieceSize pieceReads octets))
     (Err WrongKind)))
 
 -- the frame that octets spell; without a first octet their number is wrong

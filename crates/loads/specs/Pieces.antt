@@ -13,6 +13,14 @@ use Rattle.loads.specs.declared.pieces.Piece.{Piece}
 use Rattle.loads.specs.Maps.{onMap}
 use Rattle.loads.specs.Octets.{bigEndian, field}
 
+-- the number of the kind
+abbrev pub pieceKind : ℕ
+pieceKind = 2
+
+-- the octets that a piece has
+abbrev pub pieceSize : ℕ
+pieceSize = 19
+
 -- what is made of the fact that a test holds, or else the other
 abbrev pub whenTrue : {X : Type 0} → (b : Bool) → (b ≡ true → X) → X → X
 whenTrue true make other = make refl
@@ -29,9 +37,9 @@ pieceOf zoom column row number body =
 abbrev pub pieceSpelled : Piece → List ℕ
 pieceSpelled x = x .zoom ∷ (bigEndian 4 (x .column) ++ (bigEndian 4 (x .row) ++ (bigEndian 2 (x .number) ++ bigEndian 8 (x .body))))
 
--- nineteen octets read as the piece of their fields
+-- octets of that number read as the piece of their fields
 abbrev pub pieceReads : List ℕ → Result Piece Fault
 pieceReads octets =
-    cond (eqb (length octets) 19)
+    cond (eqb (length octets) pieceSize)
     (pieceOf (getD octets 0 0) (field 1 4 octets) (field 5 4 octets) (field 9 2 octets) (field 11 8 octets))
     (Err WrongLength)

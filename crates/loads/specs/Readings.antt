@@ -11,10 +11,18 @@ use Rattle.loads.specs.declared.faults.Fault.the-variants.{WrongLength}
 use Rattle.loads.specs.declared.readings.Reading.{Reading}
 use Rattle.loads.specs.Octets.{bigEndian, valueOf}
 
+-- the number of the kind
+abbrev pub readingKind : ℕ
+readingKind = 1
+
+-- the octets that a reading has
+abbrev pub readingSize : ℕ
+readingSize = 4
+
 -- a reading is spelled as its value
 abbrev pub readingSpelled : Reading → List ℕ
 readingSpelled x = bigEndian 4 (x .value)
 
--- four octets read as the reading of their value
+-- octets of that number read as the reading of their value
 abbrev pub readingReads : List ℕ → Result Reading Fault
-readingReads octets = cond (eqb (length octets) 4) (Ok (record { value = valueOf octets })) (Err WrongLength)
+readingReads octets = cond (eqb (length octets) readingSize) (Ok (record { value = valueOf octets })) (Err WrongLength)

@@ -1,27 +1,33 @@
 // The empty load, which rides on replies.
-ghost use Rattle.loads.specs.Empties.{emptySpelled, emptyReads};
+ghost use Rattle.loads.specs.Empties.{emptyKind, emptySize, emptySpelled, emptyReads};
 use crate::faults::Fault;
 use crate::kinds::Load;
+
+// The number of the kind.
+const KIND: u8 = 0;
+
+// The octets of an empty load.
+const SIZE: usize = 0;
 
 // A load of no octets.
 #[derive(Clone, Copy, Debug, PartialEq, Eq)]
 pub struct EmptyLoad;
 
 pub impl Load for EmptyLoad as EmptyLoadLoad {
-    ghost kind = { 0 };
+    ghost kind = { emptyKind };
 
-    ghost size = { 0 };
+    ghost size = { emptySize };
 
     ghost spelled = { emptySpelled };
 
     ghost reads = { emptyReads };
 
     fn kind_number() -> u8 {
-        0
+        KIND
     }
 
     fn octet_count() -> usize {
-        0
+        SIZE
     }
 
     fn read(octets: &[u8]) -> Result<EmptyLoad, Fault> {

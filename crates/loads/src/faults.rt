@@ -8,7 +8,7 @@ use std::alloc::Refused;
 use std::error::Error;
 use std::fmt;
 
-// A refusal of a reader, a writer or the book.
+// A refusal of a reader or a writer, or want of memory.
 #[derive(Clone, Copy, Debug, PartialEq, Eq)]
 pub enum Fault {
     // The octets are not as many as the kind has, or the buffer is too short for them.
@@ -17,7 +17,7 @@ pub enum Fault {
     WrongKind,
     // The fields are no piece of a map tile.
     OutsideRanges,
-    // The book's loads found no memory.
+    // What was to be made found no memory.
     NoMemory,
 }
 
@@ -27,10 +27,10 @@ impl Fault {
         ensures answer { λ r. ⌜ r ≡ numberOf self ⌝ }
     {
         match self {
-            Fault::WrongLength => 14,
-            Fault::WrongKind => 15,
-            Fault::OutsideRanges => 16,
-            Fault::NoMemory => 255,
+            Self::WrongLength => 14,
+            Self::WrongKind => 15,
+            Self::OutsideRanges => 16,
+            Self::NoMemory => 255,
         }
     }
 }
@@ -58,6 +58,6 @@ pub impl<T: Drop> From<Refused<T>> for Fault as FaultFromRefused {
     ghost converts = { λ _ r. r ≡ NoMemory };
 
     fn from(_refused: Refused<T>) -> Fault {
-        Fault::NoMemory
+        FaultFromAlloc::from(AllocError)
     }
 }

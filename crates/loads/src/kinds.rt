@@ -24,25 +24,34 @@ pub trait Load: Copy {
     // what octets read as
     ghost reads: { List ℕ → Result Self Fault };
 
+    // what was written reads back as the same load
     law back: { (x : Self) → reads (spelled x) ≡ Ok x };
 
+    // the spelling has the kind's length
     law sized: { (x : Self) → length (spelled x) ≡ size };
 
+    // octets of another number are turned down for that
     law refused: { (octets : List ℕ) → (length octets ≡ size → ⊥) → reads octets ≡ Err WrongLength };
 
+    // the number fits the five bits that a frame has for it
     law kind_bound: { kind < 32 };
 
+    // a frame has at most 32 octets
     law size_bound: { size ≤ 31 };
 
+    // The kind's number.
     fn kind_number() -> u8
         ensures answer { λ r. ⌜ r ≡ kind ⌝ };
 
+    // How many octets a load has.
     fn octet_count() -> usize
         ensures answer { λ r. ⌜ r ≡ size ⌝ };
 
+    // The load that octets spell.
     fn read(octets: &[u8]) -> Result<Self, Fault>
         ensures answer { λ r. ⌜ r ≡ reads (now (octets .entry)) ⌝ };
 
+    // Spells the load at the front of a buffer.
     fn write(&self, buffer: &mut [u8]) -> Result<(), Fault>
         ensures answer { λ r. ⌜ r ≡ written (spelled (now (self .entry))) (now (buffer .entry)) ⌝ }
         ensures after { λ _. ⌜ now (buffer .exit) ≡ filled (spelled (now (self .entry))) (now (buffer .entry)) ⌝ };

@@ -1,8 +1,11 @@
 // The reading: a 32-bit number from the trail.
-ghost use Rattle.loads.specs.Readings.{readingSpelled, readingReads};
+ghost use Rattle.loads.specs.Readings.{readingKind, readingSize, readingSpelled, readingReads};
 use crate::faults::Fault;
 use crate::kinds::Load;
 use crate::octets::value_of;
+
+// The number of the kind.
+const KIND: u8 = 1;
 
 // The octets of a reading.
 const SIZE: usize = 4;
@@ -14,16 +17,16 @@ pub struct Reading {
 }
 
 pub impl Load for Reading as ReadingLoad {
-    ghost kind = { 1 };
+    ghost kind = { readingKind };
 
-    ghost size = { 4 };
+    ghost size = { readingSize };
 
     ghost spelled = { readingSpelled };
 
     ghost reads = { readingReads };
 
     fn kind_number() -> u8 {
-        1
+        KIND
     }
 
     fn octet_count() -> usize {

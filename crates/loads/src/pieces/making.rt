@@ -1,7 +1,7 @@
 // The piece made from its fields, and as octets.
 ghost use mathlib.Core.Path.{_≡_};
 ghost use Rattle.loads.specs.Maps.{onMap};
-ghost use Rattle.loads.specs.Pieces.{pieceOf, pieceSpelled, pieceReads};
+ghost use Rattle.loads.specs.Pieces.{pieceOf, pieceKind, pieceSize, pieceSpelled, pieceReads};
 use crate::faults::Fault;
 use crate::kinds::Load;
 use crate::octets::value_of;
@@ -9,6 +9,9 @@ use crate::pieces::Piece;
 
 // The highest zoom that a map is drawn at.
 const ZOOM_LIMIT: u8 = 20;
+
+// The number of the kind.
+const KIND: u8 = 2;
 
 // The octets of a piece.
 const SIZE: usize = 19;
@@ -39,16 +42,16 @@ impl Piece {
 }
 
 pub impl Load for Piece as PieceLoad {
-    ghost kind = { 2 };
+    ghost kind = { pieceKind };
 
-    ghost size = { 19 };
+    ghost size = { pieceSize };
 
     ghost spelled = { pieceSpelled };
 
     ghost reads = { pieceReads };
 
     fn kind_number() -> u8 {
-        2
+        KIND
     }
 
     fn octet_count() -> usize {
