@@ -1,12 +1,13 @@
 -- A book that is read record by record. Assumes nothing.
-use mathlib.Core.Path.{_≡_, sym, ap, _∙_}
+use mathlib.Core.Path.{_≡_, refl, sym, ap, _∙_}
 use mathlib.Core.List.{List, [], _∷_, _++_}
 use Prim.Native.Nat.{ℕ, zero, suc, _+_, _-_, _≤_, _<_}
 use native.Mathlib.Omega.{arith}
-use lib.ListN.{take, drop}
+use lib.ListN.{length, take, drop}
 use Rattle.std.specs.declared.result.Result.{Result}
 use Rattle.std.specs.declared.result.Result.the-variants.{Ok, Err}
-use Rattle.std.proofs.shelf.Lists.{append-assoc, append-nil}
+use Rattle.std.specs.Joined.{joined}
+use Rattle.std.proofs.shelf.Lists.{append-assoc, append-nil, take-at, drop-at}
 use Rattle.loads.specs.declared.faults.Fault.{Fault}
 use Rattle.loads.specs.Books.{before, bookReads}
 
@@ -29,3 +30,13 @@ module _ {T : Type 0} (size : ℕ) (reads : List ℕ → Result T Fault) where
   book-full count i done rest full =
       let none : count - i ≡ 0 = omega arith in
       ap (λ n. done ++ bookReads size reads n rest) none ∙ append-nil done
+
+  -- loads that are spelled one after another are a book
+  pub book-back : (spelled : T → List ℕ) → ((x : T) → length (spelled x) ≡ size) → ((x : T) → reads (spelled x) ≡ Ok x) → (loads : List T) → bookReads size reads (length loads) (joined spelled loads) ≡ loads
+  book-back spelled sized back [] = refl
+  book-back spelled sized back (x ∷ loads) =
+      let front = take-at (spelled x) (joined spelled loads) size (sized x) in
+      let rest = drop-at (spelled x) (joined spelled loads) size (sized x) in
+      (λ i. before (reads (front i)) (bookReads size reads (length loads) (rest i)))
+      ∙ ap (λ r. before r (bookReads size reads (length loads) (joined spelled loads))) (back x)
+      ∙ ap (λ xs. x ∷ xs) (book-back spelled sized back loads)

@@ -1,8 +1,11 @@
 // The book: loads of one kind, in order, read from octets.
 ghost use mathlib.Core.Path.{_≡_};
+ghost use mathlib.Core.List.{List};
 ghost use lib.ListN.{length};
 ghost use Rattle.std.specs.Finite.{nth};
+ghost use Rattle.std.specs.Joined.{joined};
 ghost use Rattle.std.specs.Results.{Cases};
+ghost use Rattle.std.specs.Vec.{made};
 ghost use Rattle.loads.specs.Books.{bookReads, loadsOf};
 ghost use Rattle.loads.specs.declared.faults.Fault.the-variants.{NoMemory};
 use crate::faults::Fault;
@@ -20,6 +23,7 @@ impl<T: Load> Book<T> {
     // At most `count` loads, up to the first record that spells none.
     pub fn read(heap: Global, count: usize, octets: &[u8]) -> Result<Book<T>, Fault>
         ensures cases { λ r. ⌜ Cases r (λ book. loadsOf book ≡ bookReads size reads count (now (octets .entry))) (λ fault. fault ≡ NoMemory) ⌝ }
+        ensures back { λ r. ⌜ ((loads : List T) → count ≡ length loads → now (octets .entry) ≡ joined spelled loads → made r (λ book. loadsOf book ≡ loads)) ⌝ }
     {
         let size = T::octet_count();
         let mut loads = Vec::new(heap);

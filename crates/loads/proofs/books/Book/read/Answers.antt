@@ -7,7 +7,7 @@ use Rattle.std.proofs.Told.{chosen}
 use Rattle.std.specs.Results.{isOk}
 use Rattle.std.specs.Of.Vec.{vec-items}
 use Rattle.loads.specs.Books.{bookReads}
-use Rattle.loads.proofs.BookLaws.{book-more, book-ends, book-full}
+use Rattle.loads.proofs.BookLaws.{book-more, book-ends, book-full, book-back}
 use Rattle.loads.proofs.books.Book.read.Needs as need
 use Rattle.loads.proofs.books.Book.read.Needs.{else-loop-i-test, then-loop-i-test·then-rest-size, then-loop-i-test·else-rest-size·in-rest}
 
@@ -49,4 +49,8 @@ returns g c =
           let cut = w .split-at .ensures .front ∙ ap (λ n. take n rest) (c .octet-count-size .ensures .answer) in
           book-ends (kind .size) (kind .reads) (count - i) done rest _ (sym (w .in-rest .ensures tt .answer ∙ ap (kind .reads) cut))
     ] in
-    record { cases = sym ended ∙ c .loop-i .inv }
+    let read = sym ended ∙ c .loop-i .inv in
+    record {
+      cases = read;
+      back = λ loads counted spelled. read ∙ (λ j. bookReads (kind .size) (kind .reads) (counted j) (spelled j)) ∙ book-back (kind .size) (kind .reads) (kind .spelled) (g .T·Load·met .sized) (g .T·Load·met .back) loads;
+    }
