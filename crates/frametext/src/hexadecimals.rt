@@ -19,7 +19,7 @@ fn digit(n: u8) -> char
     }
 }
 
-// Two digits for each octet, and nothing between them.
+// Two digits for each octet, and nothing between them. Open: whether there is memory for them.
 pub fn hexadecimal(heap: Global, octets: &[u8]) -> Result<String, AllocError>
     ensures made { λ r. ⌜ made r (λ text. string-bytes text ≡ hexadecimalOf (now (octets .entry))) ⌝ }
 {

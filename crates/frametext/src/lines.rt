@@ -76,7 +76,8 @@ fn spelled_text(heap: Global, octets: &[u8]) -> Result<String, AllocError>
     }
 }
 
-// A label, the octets in hexadecimal, and what they spell or the number that turns them down.
+// A label, the octets in hexadecimal, and what they spell or the number that turns them down. Open: whether there is
+// memory for the text.
 pub fn frame_line(heap: Global, label: &str, octets: &[u8]) -> Result<String, AllocError>
     ensures made { λ r. ⌜ made r (λ text. string-bytes text ≡ line (now (label .entry)) (now (octets .entry))) ⌝ }
 {
@@ -109,7 +110,8 @@ fn changed_lines(
     format!(heap, "{wrote}\n{damaged}")
 }
 
-// Two lines: a frame as it is written, and a copy of it with the octet at a place changed.
+// Two lines: a frame as it is written, and a copy of it with the octet at a place changed. Open: whether there is memory
+// for the text.
 pub fn frame_lines<T: Load>(
     heap: Global,
     frame: &Frame<T>,

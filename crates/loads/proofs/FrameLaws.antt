@@ -2,7 +2,7 @@
 use mathlib.Core.Path.{_≡_, refl, sym, ap, _∙_}
 use mathlib.Core.Bool.{Bool, true, false, cond}
 use mathlib.Core.List.{List}
-use Prim.Native.Nat.{ℕ, suc, _+_, _*_, _/_, _%_, _^_, _≤_, _<_}
+use Prim.Native.Nat.{ℕ, suc, _+_, _*_, _%_, _^_, _≤_, _<_}
 use native.Mathlib.Omega.{arith}
 use borrow.Author.Tests.{eq-eqb, ne-eqb}
 use lib.Bits.{bitAnd}
@@ -10,11 +10,11 @@ use lib.Dec.{eqb}
 use lib.ListN.{length, getD, drop}
 use Rattle.std.specs.declared.result.Result.{Result}
 use Rattle.std.specs.declared.result.Result.the-variants.{Ok, Err}
-use Rattle.std.proofs.shelf.Bits.{and-mask}
+use Rattle.std.proofs.shelf.Bits.{and-mask, div-mul-add, mod-mul-add}
 use Rattle.loads.specs.declared.faults.Fault.{Fault}
 use Rattle.loads.specs.declared.faults.Fault.the-variants.{WrongKind}
 use Rattle.loads.specs.declared.frames.Frame.{Frame}
-use Rattle.loads.specs.Frames.{bitAt, frameSpelled, framed, frameReads}
+use Rattle.loads.specs.Frames.{bitAt, bitOn, header, frameSpelled, framed, frameReads}
 
 -- a bit as a number
 abbrev unit : Bool → ℕ
@@ -32,24 +32,12 @@ weighed : (place : ℕ) (on : Bool) → bitAt place on ≡ unit on * 2 ^ place
 weighed place true = omega arith
 weighed place false = omega arith
 
-module _ (a b c : Bool) (kind : ℕ) (small : kind < 32) where
-  abbrev octet : ℕ
-  octet = bitAt 7 a + (bitAt 6 b + (bitAt 5 c + kind))
-
-  octet-is : octet ≡ unit a * 128 + (unit b * 64 + (unit c * 32 + kind))
-  octet-is = omega (arith, weighed 7 a, weighed 6 b, weighed 5 c)
-
-  bit-7 : octet / 2 ^ 7 % 2 ≡ unit a
-  bit-7 = omega (arith, octet-is, unit-small a, unit-small b, unit-small c)
-
-  bit-6 : octet / 2 ^ 6 % 2 ≡ unit b
-  bit-6 = omega (arith, octet-is, unit-small a, unit-small b, unit-small c)
-
-  bit-5 : octet / 2 ^ 5 % 2 ≡ unit c
-  bit-5 = omega (arith, octet-is, unit-small a, unit-small b, unit-small c)
-
-  low-bits : octet % 2 ^ 5 ≡ kind
-  low-bits = omega (arith, octet-is, unit-small a, unit-small b, unit-small c)
+-- a bit comes back from an octet, whatever the bits above and below it
+bit-back : (place above below octet : ℕ) (on : Bool) → octet ≡ (above * 2 + unit on) * 2 ^ place + below → below < 2 ^ place → bitOn place octet ≡ on
+bit-back place above below octet on split small =
+    let higher = ap (λ n. n % 2) (div-mul-add (above * 2 + unit on) (2 ^ place) below small) in
+    let lowest = mod-mul-add above 2 (unit on) (omega (arith, unit-small on)) in
+    rw split (ap (λ n. eqb n 1) (higher ∙ lowest) ∙ unit-on on)
 
 module _ {T : Type 0} (kind size : ℕ) (reads : List ℕ → Result T Fault) where
   reads-right : (octets : List ℕ) → length octets ≡ size + 1 → getD octets 0 0 % 2 ^ 5 ≡ kind → frameReads kind size reads octets ≡ framed (getD octets 0 0) (reads (drop 1 octets))
@@ -69,12 +57,14 @@ module _ {T : Type 0} (kind size : ℕ) (reads : List ℕ → Result T Fault) wh
       let a = frame .first in
       let b = frame .last in
       let c = frame .toggle in
+      let octet : ℕ = header kind frame in
+      let whole : octet ≡ unit a * 128 + (unit b * 64 + (unit c * 32 + kind)) = omega (arith, weighed 7 a, weighed 6 b, weighed 5 c) in
+      let b-small = unit-small b in
+      let c-small = unit-small c in
       let long : suc (length (spelled (frame .load))) ≡ size + 1 = omega (arith, sized (frame .load)) in
-      reads-right (frameSpelled kind spelled frame) long (low-bits a b c kind small)
-      ∙ ap (framed (octet a b c kind small)) (back (frame .load))
-      ∙ (λ i. Ok (record {
-        first = (ap (λ n. eqb n 1) (bit-7 a b c kind small) ∙ unit-on a) i;
-        last = (ap (λ n. eqb n 1) (bit-6 a b c kind small) ∙ unit-on b) i;
-        toggle = (ap (λ n. eqb n 1) (bit-5 a b c kind small) ∙ unit-on c) i;
-        load = frame .load;
-      }))
+      let first = bit-back 7 0 (unit b * 64 + (unit c * 32 + kind)) octet a (omega arith) (omega arith) in
+      let last = bit-back 6 (unit a) (unit c * 32 + kind) octet b (omega arith) (omega arith) in
+      let toggle = bit-back 5 (unit a * 2 + unit b) kind octet c (omega arith) (omega arith) in
+      reads-right (frameSpelled kind spelled frame) long (omega arith)
+      ∙ ap (framed octet) (back (frame .load))
+      ∙ (λ i. Ok (record { first = first i; last = last i; toggle = toggle i; load = frame .load }))

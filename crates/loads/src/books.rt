@@ -20,7 +20,7 @@ pub struct Book<T> {
 }
 
 impl<T: Load> Book<T> {
-    // At most `count` loads, up to the first record that spells none.
+    // At most `count` loads, up to the first record that spells none. Open: whether there is memory for them.
     pub fn read(heap: Global, count: usize, octets: &[u8]) -> Result<Book<T>, Fault>
         ensures cases { λ r. ⌜ Cases r (λ book. loadsOf book ≡ bookReads size reads count (now (octets .entry))) (λ fault. fault ≡ NoMemory) ⌝ }
         ensures back { λ r. ⌜ ((loads : List T) → count ≡ length loads → now (octets .entry) ≡ joined spelled loads → made r (λ book. loadsOf book ≡ loads)) ⌝ }
