@@ -1,4 +1,4 @@
-// The empty load, which rides on replies.
+// The empty load, which replies carry.
 ghost use Rattle.loads.specs.Empties.{emptyKind, emptySize, emptySpelled, emptyReads};
 use crate::faults::Fault;
 use crate::kinds::Load;
