@@ -20,6 +20,10 @@ taken : (fits : Bool) → answered fits ≡ Ok tt → fits ≡ true
 taken true e = refl
 taken false e = let z : _≡_ {A = ℕ} 0 1 = cc in absurd (omega arith)
 
+-- the same front of the same list
+pub same-front : {n size : ℕ} {xs ys : List ℕ} → n ≡ size → xs ≡ ys → take n xs ≡ take size ys
+same-front count list = λ i. take (count i) (list i)
+
 pub comes-back : {X : Type 0} (reads : List ℕ → Result X Fault) (value : X) (octets buffer : List ℕ) (size : ℕ) → length octets ≡ size → reads octets ≡ Ok value → written octets buffer ≡ Ok tt → reads (take size (filled octets buffer)) ≡ returned size value buffer
 comes-back reads value octets buffer size long back took =
     let fits = leb-true (length octets) (length buffer) (taken (leb (length octets) (length buffer)) took) in

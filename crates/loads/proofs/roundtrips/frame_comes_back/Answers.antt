@@ -1,10 +1,9 @@
-use mathlib.Core.Path.{_≡_, sym, _∙_}
-use Prim.Native.Nat.{_+_, _-_}
+use mathlib.Core.Path.{sym, ap, _∙_}
+use Prim.Native.Nat.{_+_}
 use native.Mathlib.Omega.{arith}
-use lib.ListN.{take}
 use Rattle.loads.specs.Frames.{frameSpelled, frameReads}
 use Rattle.loads.proofs.FrameLaws.{frame-back}
-use Rattle.loads.proofs.Returned.{comes-back}
+use Rattle.loads.proofs.Returned.{same-front, comes-back}
 use Rattle.loads.proofs.roundtrips.frame_comes_back.Needs as need
 
 pub returns : need.returns
@@ -15,8 +14,7 @@ returns g c =
     let octets = frameSpelled (kind .kind) (kind .spelled) frame in
     let whole = frame-back (kind .kind) (kind .size) (kind .reads) (kind .spelled) frame (laws .«kind_bound») (laws .sized) (laws .back) in
     let back = comes-back (frameReads (kind .kind) (kind .size) (kind .reads)) frame octets (c .args .buffer .now) (kind .size + 1) (omega (arith, laws .sized (frame .load))) whole (sym (c .write .ensures .answer) ∙ c .in-Continue-write .was tt) in
-    let front : c .octet-count .result + 1 - 0 ≡ kind .size + 1 = omega arith in
     record {
-      answer = c .read .ensures .answer ∙ (λ i. frameReads (kind .kind) (kind .size) (kind .reads) (take (front i) (c .write .ensures .after i))) ∙ back;
+      answer = c .read .ensures .answer ∙ ap (frameReads (kind .kind) (kind .size) (kind .reads)) (same-front (omega arith) (c .write .ensures .after)) ∙ back;
       after = c .write .ensures .after;
     }

@@ -1,8 +1,6 @@
-use mathlib.Core.Path.{_≡_, sym, _∙_}
-use Prim.Native.Nat.{_-_}
+use mathlib.Core.Path.{sym, ap, _∙_}
 use native.Mathlib.Omega.{arith}
-use lib.ListN.{take}
-use Rattle.loads.proofs.Returned.{comes-back}
+use Rattle.loads.proofs.Returned.{same-front, comes-back}
 use Rattle.loads.proofs.roundtrips.load_comes_back.Needs as need
 
 pub returns : need.returns
@@ -11,8 +9,7 @@ returns g c =
     let laws = g .T·Load·met in
     let load = c .args .load .now in
     let back = comes-back (kind .reads) load (kind .spelled load) (c .args .buffer .now) (kind .size) (laws .sized load) (laws .back load) (sym (c .write .ensures .answer) ∙ c .in-Continue-write .was tt) in
-    let front : c .octet-count .result - 0 ≡ kind .size = omega arith in
     record {
-      answer = c .read .ensures .answer ∙ (λ i. kind .reads (take (front i) (c .write .ensures .after i))) ∙ back;
+      answer = c .read .ensures .answer ∙ ap (kind .reads) (same-front (omega arith) (c .write .ensures .after)) ∙ back;
       after = c .write .ensures .after;
     }
