@@ -1,8 +1,9 @@
 // Octets in hexadecimal, with capitals.
 ghost use mathlib.Core.Path.{_≡_};
 ghost use Prim.Native.Nat.{_<_};
+ghost use lib.ListN.{length};
 ghost use Rattle.std.specs.Of.String.{string-bytes};
-ghost use Rattle.std.specs.Vec.{made};
+ghost use Rattle.std.specs.Results.{Cases};
 ghost use Rattle.frametext.specs.Hexadecimals.{digit as digitOf, hexadecimal as hexadecimalOf};
 use std::alloc::AllocError;
 use std::alloc::Global;
@@ -19,9 +20,10 @@ fn digit(n: u8) -> char
     }
 }
 
-// Two digits for each octet, and nothing between them. Open: whether there is memory for them.
+// Two digits for each octet, and nothing between them. Open: whether there is memory for
+// them, where there are any.
 pub fn hexadecimal(heap: Global, octets: &[u8]) -> Result<String, AllocError>
-    ensures made { λ r. ⌜ made r (λ text. string-bytes text ≡ hexadecimalOf (now (octets .entry))) ⌝ }
+    ensures cases { λ r. ⌜ Cases r (λ text. string-bytes text ≡ hexadecimalOf (now (octets .entry))) (λ _. 0 < length (now (octets .entry))) ⌝ }
 {
     let mut text = String::new(heap);
     for octet in octets {

@@ -7,7 +7,7 @@ use lib.ListN.{length, take, drop}
 use Rattle.std.specs.declared.result.Result.{Result}
 use Rattle.std.specs.declared.result.Result.the-variants.{Ok, Err}
 use Rattle.std.specs.Joined.{joined}
-use Rattle.std.proofs.shelf.Lists.{append-assoc, append-nil, take-at, drop-at}
+use Rattle.std.proofs.shelf.Lists.{append-assoc, append-nil, length-append, length-push, take-at, drop-at}
 use Rattle.loads.specs.declared.faults.Fault.{Fault}
 use Rattle.loads.specs.Books.{before, bookReads}
 
@@ -19,6 +19,13 @@ module _ {T : Type 0} (size : ℕ) (reads : List ℕ → Result T Fault) where
       append-assoc done (load ∷ []) (bookReads size reads (count - (i + 1)) (drop size rest))
       ∙ ap (λ r. done ++ before r (bookReads size reads (count - (i + 1)) (drop size rest))) (sym reading)
       ∙ ap (λ n. done ++ bookReads size reads n rest) (sym left)
+
+  -- a book has a load where a record spells one
+  pub book-some : (count i : ℕ) (done : List T) (rest : List ℕ) (load : T) → i < count → reads (take size rest) ≡ Ok load → 0 < length (done ++ bookReads size reads (count - i) rest)
+  book-some count i done rest load more reading =
+      let behind = bookReads size reads (count - (i + 1)) (drop size rest) in
+      let longer = ap length (book-more count i done rest load more reading) in
+      omega (arith, longer, length-append (done ++ (load ∷ [])) behind, length-push done load)
 
   -- a record that spells none ends the book
   pub book-ends : (n : ℕ) (done : List T) (rest : List ℕ) (fault : Fault) → reads (take size rest) ≡ Err fault → done ++ bookReads size reads n rest ≡ done

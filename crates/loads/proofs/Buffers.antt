@@ -10,11 +10,11 @@ use Rattle.loads.specs.Octets.{filled}
 use Rattle.std.proofs.shelf.Lists.{append-assoc, length-append, take-at, drop-at, drop-drop, set-split}
 
 -- the first octet
-pub put-first : (o : ℕ) (buffer : List ℕ) → 0 < length buffer → set buffer 0 o ≡ o ∷ drop 1 buffer
+put-first : (o : ℕ) (buffer : List ℕ) → 0 < length buffer → set buffer 0 o ≡ o ∷ drop 1 buffer
 put-first o buffer some = set-split buffer 0 o some
 
 -- a part behind what is there
-pub put-next : {X : Type 0} (done part buffer : List X) (n k : ℕ) → length done ≡ n → length part ≡ k → putMid n k (done ++ drop n buffer) part ≡ (done ++ part) ++ drop (n + k) buffer
+put-next : {X : Type 0} (done part buffer : List X) (n k : ℕ) → length done ≡ n → length part ≡ k → putMid n k (done ++ drop n buffer) part ≡ (done ++ part) ++ drop (n + k) buffer
 put-next done part buffer n k there fits =
     let front = take-at done (drop n buffer) n there in
     let rest = ap (drop k) (drop-at done (drop n buffer) n there) ∙ drop-drop k n buffer in

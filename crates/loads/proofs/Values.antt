@@ -28,7 +28,7 @@ pub value-back : (k n : ℕ) → valueOf (bigEndian (suc k) n) ≡ n
 value-back k n = back-after k 0 n ∙ omega arith
 
 -- the lowest octets of a number, as `to_be_bytes` gives them
-abbrev pub lowOctets : ℕ → ℕ → List ℕ
+abbrev lowOctets : ℕ → ℕ → List ℕ
 lowOctets zero n = []
 lowOctets (suc zero) n = (n % 256) ∷ []
 lowOctets (suc (suc k)) n = (n / 256 ^ suc k % 256) ∷ lowOctets (suc k) n

@@ -1,6 +1,7 @@
 // The book: loads of one kind, in order, read from octets.
 ghost use mathlib.Core.Path.{_≡_};
 ghost use mathlib.Core.List.{List};
+ghost use Prim.Native.Nat.{_<_};
 ghost use lib.ListN.{length};
 ghost use Rattle.std.specs.Finite.{nth};
 ghost use Rattle.std.specs.Joined.{joined};
@@ -20,9 +21,10 @@ pub struct Book<T> {
 }
 
 impl<T: Load> Book<T> {
-    // At most `count` loads, up to the first record that spells none. Open: whether there is memory for them.
+    // At most `count` loads, up to the first record that spells none. Open: whether there is memory
+    // for them, where there are any.
     pub fn read(heap: Global, count: usize, octets: &[u8]) -> Result<Book<T>, Fault>
-        ensures cases { λ r. ⌜ Cases r (λ book. loadsOf book ≡ bookReads size reads count (now (octets .entry))) (λ fault. fault ≡ NoMemory) ⌝ }
+        ensures cases { λ r. ⌜ Cases r (λ book. loadsOf book ≡ bookReads size reads count (now (octets .entry))) (λ fault. (fault ≡ NoMemory) × (0 < length (bookReads size reads count (now (octets .entry))))) ⌝ }
         ensures back { λ r. ⌜ ((loads : List T) → count ≡ length loads → now (octets .entry) ≡ joined spelled loads → made r (λ book. loadsOf book ≡ loads)) ⌝ }
     {
         let size = T::octet_count();

@@ -29,4 +29,4 @@ pub returns : need.returns
 returns c =
     let octets = c .args .octets .now in
     let i = c .loop-octet .octet-index in
-    record { made = sym (ap (λ rest. string-bytes (c .loop-octet .text) ++ hexadecimalOf rest) (drop-all i octets (c .loop-octet-test .left)) ∙ append-nil _) ∙ c .loop-octet .inv }
+    record { cases = sym (ap (λ rest. string-bytes (c .loop-octet .text) ++ hexadecimalOf rest) (drop-all i octets (c .loop-octet-test .left)) ∙ append-nil _) ∙ c .loop-octet .inv }

@@ -4,10 +4,11 @@ use native.Mathlib.Omega.{arith}
 use Prim.Native.Nat.{_-_, _+_}
 use lib.ListN.{take, drop, length-take}
 use Rattle.std.proofs.Told.{chosen}
+use Rattle.std.proofs.shelf.Results.{err-from-errBy}
 use Rattle.std.specs.Results.{isOk}
 use Rattle.std.specs.Of.Vec.{vec-items}
 use Rattle.loads.specs.Books.{bookReads}
-use Rattle.loads.proofs.BookLaws.{book-more, book-ends, book-full, book-back}
+use Rattle.loads.proofs.BookLaws.{book-more, book-some, book-ends, book-full, book-back}
 use Rattle.loads.proofs.books.Book.read.Needs as need
 use Rattle.loads.proofs.books.Book.read.Needs.{else-loop-i-test, then-loop-i-test·then-rest-size, then-loop-i-test·else-rest-size·in-rest}
 
@@ -54,3 +55,14 @@ returns g c =
       cases = read;
       back = λ loads counted spelled. read ∙ (λ j. bookReads (kind .size) (kind .reads) (counted j) (spelled j)) ∙ book-back (kind .size) (kind .reads) (kind .spelled) (g .T·Load·met .sized) (g .T·Load·met .back) loads;
     }
+
+pub returns-in-Break-push : need.returns-in-Break-push
+returns-in-Break-push g c =
+    let kind = g .T·Load in
+    let done = vec-items (c .loop-i .loads) in
+    let rest = c .loop-i .rest .now in
+    let cut = c .split-at .ensures .front ∙ ap (λ n. take n rest) (c .octet-count-size .ensures .answer) in
+    let reading = sym (c .in-Ok .ensures tt .answer ∙ ap (kind .reads) cut) in
+    let some = book-some (kind .size) (kind .reads) (c .args .count) (c .loop-i .-i) done rest (c .in-Ok .load) (c .loop-i-test .taken) reading in
+    let p = err-from-errBy (c .from-residual .result) (c .from-residual .ensures .1) in
+    rw (p .1) (record { cases = (p .2, rw (c .loop-i .inv) at some); back = λ loads counted spelled. tt })
