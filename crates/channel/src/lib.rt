@@ -1,4 +1,7 @@
 // The rule that every channel keeps, and what follows from it. Nothing here is a channel.
+
+#![tactic(auto)]
+
 mod polls;
 mod refusals;
 mod rows;

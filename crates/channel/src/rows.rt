@@ -25,7 +25,7 @@ impl<T: Copy> Call<T> {
     // Makes the call.
     fn make<C: Channel<T>>(&self, channel: &mut C) -> Event<T>
         ensures called { call_of result ≡ self.now }
-        ensures open_answer { Step waiting puts polls channel.old result channel.new }
+        ensures open_answer { Step C.waiting C.puts C.polls channel.old result channel.new }
     {
         match self {
             Call::Put(frame) => Event::Put(*frame, channel.put(frame)),
@@ -44,8 +44,8 @@ pub fn make_calls<T: Copy, C: Channel<T>>(
     ensures answer { result ≡ min (length calls.now) (length log.old) }
     ensures called { map call_of (take result log.new) ≡ take result calls.now }
     ensures later { drop result log.new ≡ drop result log.old }
-    ensures open_answers { Row waiting puts polls channel.old (take result log.new) channel.new }
-    ensures conserved { Conserved (waiting channel.old) (take result log.new) (waiting channel.new) }
+    ensures open_answers { Row C.waiting C.puts C.polls channel.old (take result log.new) channel.new }
+    ensures conserved { Conserved (C.waiting channel.old) (take result log.new) (C.waiting channel.new) }
 {
     let count = calls.len().min(log.len());
     for i in 0..count {

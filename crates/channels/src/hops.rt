@@ -31,11 +31,11 @@ impl<N, F> Hop<N, F> {
 }
 
 impl<T: Copy, N: Channel<T>, F: Channel<T>> Channel<T> for Hop<N, F> {
-    ghost waiting = { hop_waits N.Channel.waiting F.Channel.waiting };
+    ghost waiting = { hop_waits N.waiting F.waiting };
 
-    ghost puts = { λ before frame after. HopPuts (Puts N.Channel.waiting N.Channel.puts) (held (hop_waits N.Channel.waiting F.Channel.waiting before)) before frame after };
+    ghost puts = { λ before frame after. HopPuts (Puts N.waiting N.puts) (held (hop_waits N.waiting F.waiting before)) before frame after };
 
-    ghost polls = { λ before answer after. HopPolls (Polls N.Channel.waiting N.Channel.polls) (Puts F.Channel.waiting F.Channel.puts) (Polls F.Channel.waiting F.Channel.polls) (held (F.Channel.waiting before.far)) before answer after };
+    ghost polls = { λ before answer after. HopPolls (Polls N.waiting N.polls) (Puts F.waiting F.puts) (Polls F.waiting F.polls) (held (F.waiting before.far)) before answer after };
 
     fn put(&mut self, frame: &Frame<T>) -> Result<(), Full> {
         if self.holds() {

@@ -1,4 +1,7 @@
 // Four channels, of which any pile is a channel again.
+
+#![tactic(auto)]
+
 mod hops;
 mod marks;
 mod rains;

@@ -72,11 +72,11 @@ fn lossy<T: Copy>(answer: Poll<T>) -> Poll<T>
 }
 
 impl<'m, T: Copy, C: Channel<T>> Channel<T> for Rain<'m, C> {
-    ghost waiting = { rain_waits C.Channel.waiting };
+    ghost waiting = { rain_waits C.waiting };
 
-    ghost puts = { λ before frame after. RainPuts (Puts C.Channel.waiting C.Channel.puts) (held (C.Channel.waiting before.below)) (rain_state before) frame (rain_state after) };
+    ghost puts = { λ before frame after. RainPuts (Puts C.waiting C.puts) (held (C.waiting before.below)) (rain_state before) frame (rain_state after) };
 
-    ghost polls = { λ before answer after. RainPolls (Polls C.Channel.waiting C.Channel.polls) before.mark (held (C.Channel.waiting before.below)) (rain_state before) answer (rain_state after) };
+    ghost polls = { λ before answer after. RainPolls (Polls C.waiting C.polls) before.mark (held (C.waiting before.below)) (rain_state before) answer (rain_state after) };
 
     fn put(&mut self, frame: &Frame<T>) -> Result<(), Full> {
         self.below.put(frame)?;

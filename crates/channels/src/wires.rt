@@ -17,7 +17,7 @@ pub struct Wire<T> {
 impl<T: Load> Wire<T> {
     // A wire in which nothing waits.
     pub fn new() -> Wire<T>
-        ensures answer { wire_waits kind size reads result ≡ [] }
+        ensures answer { wire_waits T.kind T.size T.reads result ≡ [] }
     {
         Wire {
             octets: None,
@@ -27,7 +27,7 @@ impl<T: Load> Wire<T> {
 
     // The frame that the octets spell, if they spell one.
     fn frame(&self) -> Option<Frame<T>>
-        ensures answer { result ≡ spelt kind size reads self.now.octets }
+        ensures answer { result ≡ spelt T.kind T.size T.reads self.now.octets }
     {
         let Some(octets) = &self.octets else {
             return None;
@@ -37,9 +37,9 @@ impl<T: Load> Wire<T> {
 }
 
 impl<T: Load> Channel<T> for Wire<T> {
-    ghost waiting = { wire_waits T-as-Load.kind T-as-Load.size T-as-Load.reads };
+    ghost waiting = { wire_waits T.kind T.size T.reads };
 
-    ghost polls = { λ before answer _. answer ≡ arrival (wire_waits T-as-Load.kind T-as-Load.size T-as-Load.reads before) };
+    ghost polls = { λ before answer _. answer ≡ arrival (wire_waits T.kind T.size T.reads before) };
 
     fn put(&mut self, frame: &Frame<T>) -> Result<(), Full> {
         if self.holds() {

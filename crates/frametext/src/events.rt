@@ -20,7 +20,7 @@ fn put_number(answer: Result<(), Full>) -> u8
 
 // The octets of a frame, in hexadecimal.
 fn octets_text<T: Load>(heap: Global, frame: &Frame<T>) -> Result<String, AllocError>
-    ensures cases { IfOk result (λ text. string_bytes text ≡ octets_text kind spelled frame.now) }
+    ensures cases { IfOk result (λ text. string_bytes text ≡ octets_text T.kind T.spelled frame.now) }
 {
     let octets = frame.octets();
     hexadecimal(heap, &octets[0..T::octet_count() + 1])
@@ -28,7 +28,7 @@ fn octets_text<T: Load>(heap: Global, frame: &Frame<T>) -> Result<String, AllocE
 
 // The answer of a poll, with the frame that arrived.
 fn poll_text<T: Load>(heap: Global, answer: &Poll<T>) -> Result<String, AllocError>
-    ensures made { IfOk result (λ text. string_bytes text ≡ poll_text kind spelled answer.now) }
+    ensures made { IfOk result (λ text. string_bytes text ≡ poll_text T.kind T.spelled answer.now) }
 {
     let word = answer.word();
     match answer {
@@ -43,7 +43,7 @@ fn poll_text<T: Load>(heap: Global, answer: &Poll<T>) -> Result<String, AllocErr
 // A put with its frame and the number of its answer, or a poll with its answer. Open: whether there is memory for the
 // text.
 pub fn event_line<T: Load>(heap: Global, event: &Event<T>) -> Result<String, AllocError>
-    ensures made { IfOk result (λ text. string_bytes text ≡ event_text kind spelled event.now) }
+    ensures made { IfOk result (λ text. string_bytes text ≡ event_text T.kind T.spelled event.now) }
 {
     match event {
         Event::Put(frame, answer) => {

@@ -1,4 +1,7 @@
 // Frames of any kind, and the printed lines of frames, puts and polls.
+
+#![tactic(auto)]
+
 mod anyframes;
 mod events;
 mod hexadecimals;

@@ -106,7 +106,7 @@ pub fn frame_lines<T: Load>(
     place: usize,
     octet: u8,
 ) -> Result<String, Fault>
-    ensures cases { MatchResult result (λ text. string_bytes text ≡ lines (frame_spelled kind spelled frame.now) place octet) (λ fault. fault ≡ NoMemory) }
+    ensures cases { MatchResult result (λ text. string_bytes text ≡ lines (frame_spelled T.kind T.spelled frame.now) place octet) (λ fault. fault ≡ NoMemory) }
 {
     let mut octets = frame.octets();
     let end = T::octet_count() + 1;

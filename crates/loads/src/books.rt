@@ -18,8 +18,8 @@ impl<T: Load> Book<T> {
     // At most `count` loads, up to the first record that spells none. Open: whether there is memory
     // for them, where there are any.
     pub fn read(heap: Global, count: usize, octets: &[u8]) -> Result<Book<T>, Fault>
-        ensures cases { MatchResult result (λ book. loads_of book ≡ book_reads size reads count octets.now) (λ fault. (fault ≡ NoMemory) × (0 < length (book_reads size reads count octets.now))) }
-        ensures back { (loads : List T) → count ≡ length loads → octets.now ≡ flat_map spelled loads → IfOk result (λ book. loads_of book ≡ loads) }
+        ensures cases { MatchResult result (λ book. loads_of book ≡ book_reads T.size T.reads count octets.now) (λ fault. (fault ≡ NoMemory) × (0 < length (book_reads T.size T.reads count octets.now))) }
+        ensures back { (loads : List T) → count ≡ length loads → octets.now ≡ flat_map T.spelled loads → IfOk result (λ book. loads_of book ≡ loads) }
     {
         let size = T::octet_count();
         let mut loads = Vec::new(heap);

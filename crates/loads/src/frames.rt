@@ -38,15 +38,15 @@ fn bit_on(place: u32, octet: u8) -> bool
 impl<T: Load> Frame<T> {
     // The first octet: the three bits and the kind.
     fn header(&self) -> u8
-        ensures answer { result ≡ header_of kind self.now }
+        ensures answer { result ≡ header_of T.kind self.now }
     {
         bit_at(7, self.first) + bit_at(6, self.last) + bit_at(5, self.toggle) + T::kind_number()
     }
 
     // Spells the frame at the front of a buffer.
     pub fn write(&self, buffer: &mut [u8]) -> Result<(), Fault>
-        ensures answer { result ≡ written (frame_spelled kind spelled self.now) buffer.old }
-        ensures after { buffer.new ≡ filled (frame_spelled kind spelled self.now) buffer.old }
+        ensures answer { result ≡ written (frame_spelled T.kind T.spelled self.now) buffer.old }
+        ensures after { buffer.new ≡ filled (frame_spelled T.kind T.spelled self.now) buffer.old }
     {
         if buffer.is_empty() {
             return Err(Fault::WrongLength);
@@ -58,9 +58,9 @@ impl<T: Load> Frame<T> {
 
     // The frame's octets, and octets 0 behind them.
     pub fn octets(&self) -> [u8; LONGEST_FRAME]
-        ensures answer { result ≡ filled (frame_spelled kind spelled self.now) (replicate 32 0) }
-        ensures front { take (size + 1) result ≡ frame_spelled kind spelled self.now }
-        ensures back { frame_reads kind size reads (take (size + 1) result) ≡ Ok self.now }
+        ensures answer { result ≡ filled (frame_spelled T.kind T.spelled self.now) (replicate 32 0) }
+        ensures front { take (T.size + 1) result ≡ frame_spelled T.kind T.spelled self.now }
+        ensures back { frame_reads T.kind T.size T.reads (take (T.size + 1) result) ≡ Ok self.now }
     {
         let mut octets = [0; LONGEST_FRAME];
         // the longest frame has room, so none is refused
@@ -70,7 +70,7 @@ impl<T: Load> Frame<T> {
 
     // The frame that octets spell.
     pub fn read(octets: &[u8]) -> Result<Frame<T>, Fault>
-        ensures answer { result ≡ frame_reads kind size reads octets.now }
+        ensures answer { result ≡ frame_reads T.kind T.size T.reads octets.now }
     {
         if octets.len() != T::octet_count() + 1 {
             return Err(Fault::WrongLength);

@@ -1,4 +1,7 @@
 // What a frame carries, the frame itself, and both as octets.
+
+#![tactic(auto)]
+
 mod books;
 mod empties;
 mod faults;

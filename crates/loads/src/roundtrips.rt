@@ -9,8 +9,8 @@ use crate::kinds::Load;
 
 // Writes a load into a buffer and reads it from there: it is the same load.
 pub fn load_comes_back<T: Load>(load: &T, buffer: &mut [u8]) -> Result<T, Fault>
-    ensures answer { result ≡ returned size load.now buffer.old }
-    ensures after { buffer.new ≡ filled (spelled load.now) buffer.old }
+    ensures answer { result ≡ returned T.size load.now buffer.old }
+    ensures after { buffer.new ≡ filled (T.spelled load.now) buffer.old }
 {
     load.write(buffer)?;
     T::read(&buffer[0..T::octet_count()])
@@ -18,8 +18,8 @@ pub fn load_comes_back<T: Load>(load: &T, buffer: &mut [u8]) -> Result<T, Fault>
 
 // Writes a frame into a buffer and reads it from there: it is the same frame.
 pub fn frame_comes_back<T: Load>(frame: &Frame<T>, buffer: &mut [u8]) -> Result<Frame<T>, Fault>
-    ensures answer { result ≡ returned (size + 1) frame.now buffer.old }
-    ensures after { buffer.new ≡ filled (frame_spelled kind spelled frame.now) buffer.old }
+    ensures answer { result ≡ returned (T.size + 1) frame.now buffer.old }
+    ensures after { buffer.new ≡ filled (frame_spelled T.kind T.spelled frame.now) buffer.old }
 {
     frame.write(buffer)?;
     Frame::<T>::read(&buffer[0..T::octet_count() + 1])

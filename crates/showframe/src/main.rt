@@ -1,5 +1,8 @@
 // Writes frames and shows what their octets read back as and how a damaged copy is turned down, and then does the same
 // with the octets of standard input.
+
+#![tactic(auto)]
+
 ghost use Rattle.std.specs.Prelude.{◌≡◌, [], ◌∷◌, string_bytes, MatchResult};
 ghost use Rattle.loads.specs.declared.faults.Fault.TheVariants.{NoMemory};
 ghost use Rattle.frametext.specs.Lines.{lines};

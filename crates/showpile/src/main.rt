@@ -1,4 +1,7 @@
 // Follows a frame through a pile of channels: it is lost once, put again, and arrives.
+
+#![tactic(auto)]
+
 ghost use Rattle.std.specs.Prelude.{◌≡◌};
 ghost use Rattle.showpile.specs.Crossings.{lost_once};
 

@@ -1,4 +1,7 @@
 // Worked examples and cases at each limit, held against the libraries.
+
+#![tactic(auto)]
+
 #[cfg(test)]
 mod answers;
 #[cfg(test)]

@@ -3,7 +3,7 @@ ghost use Rattle.std.specs.Prelude.{◌≡◌};
 ghost use Rattle.loads.specs.Maps.{on_map};
 ghost use Rattle.loads.specs.Pieces.{piece_of, piece_kind, piece_size, piece_spelled, piece_reads};
 ghost use Rattle.loads.specs.PieceLaws.{piece_back};
-ghost use Rattle.std.proofs.Common.{rules, arith};
+ghost use Rattle.std.proofs.Common.{rules};
 
 use crate::faults::Fault;
 use crate::kinds::Load;
@@ -55,13 +55,13 @@ impl Load for Piece {
 
     ghost back = { λ x. piece_back x };
 
-    ghost sized = { first_of (Prim.search rules, Prim.grind (arith, Self.row.coded.inj)) };
+    ghost sized = { Prim.search rules };
 
-    ghost refused = { first_of (Prim.search rules, Prim.grind (arith, Self.row.coded.inj)) };
+    ghost refused = { Prim.search rules };
 
-    ghost kind_bound = { first_of (Prim.search rules, Prim.grind (arith, Self.row.coded.inj)) };
+    ghost kind_bound = { Prim.search rules };
 
-    ghost size_bound = { first_of (Prim.search rules, Prim.grind (arith, Self.row.coded.inj)) };
+    ghost size_bound = { Prim.search rules };
 
     fn kind_number() -> u8 {
         KIND

@@ -8,6 +8,6 @@ piece = record { zoom = 20; column = 1048575; row = 349525; number = 3; body = 0
 
 pub returns : goal.returns
 returns c =
-    let whole : Ok c.in-ok-load.load ≡ Ok piece = sym c.in-ok-load.was ∙ c.new.ensures.answer in
-    let same : c.in-ok-load.load ≡ piece = cc in
-    record { cases = rw same at c.frame-lines.ensures.cases }
+    let whole : Ok c.in_ok-load.load ≡ Ok piece = sym c.in_ok-load.was ∙ c.new.ensures.answer in
+    let same : c.in_ok-load.load ≡ piece = cc in
+    record { cases = rw same at c.frame_lines.ensures.cases }

@@ -21,7 +21,7 @@ loop-i-preserved g c =
           ∙ (λ j. c.loop-i.invariant.0 j ++ (c.make.ensures.called ∙ c.index-calls-i.is) j ∷ [])
           ∙ sym (take_more calls i c.index-calls-i.result inside),
       drop-set-lt (i + 1) log i event (omega arith) ∙ sym (drop-drop 1 i log) ∙ ap (drop 1) c.loop-i.invariant.1 ∙ drop-drop 1 i c.args.log.now,
-      subst Reaches (sym more) (Row-push rule.waiting rule.puts rule.polls c.args.channel.now c.loop-i.channel c.make.new.channel (take i log) event c.loop-i.invariant.2 c.make.ensures.open-answer),
+      subst Reaches (sym more) (Row-push rule.waiting rule.puts rule.polls c.args.channel.now c.loop-i.channel c.make.new.channel (take i log) event c.loop-i.invariant.2 c.make.ensures.open_answer),
     )
 
 pub returns : goal.returns
@@ -33,6 +33,6 @@ returns g c =
       answer = omega (arith, c.min-count.ensures);
       called = inv.0;
       later = inv.1;
-      open-answers = inv.2;
+      open_answers = inv.2;
       conserved = Row-Conserved rule.waiting rule.puts rule.polls c.args.channel.now c.loop-i.channel (take c.min-count.result c.loop-i.log) inv.2;
     }

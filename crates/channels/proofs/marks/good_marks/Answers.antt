@@ -5,18 +5,18 @@ use Rattle.channels.specs.Marks.{known}
 use Rattle.channels.proofs.MarkLaws.{known_more}
 use Rattle.channels.proofs.marks.good_marks.Goals as goal
 
-pub returns-then-octet-gt-HIGHEST-MARK : goal.returns-then-octet-gt-HIGHEST-MARK
-returns-then-octet-gt-HIGHEST-MARK c =
+pub returns-then-octet-gt-HIGHEST_MARK : goal.returns-then-octet-gt-HIGHEST_MARK
+returns-then-octet-gt-HIGHEST_MARK c =
     let octets = c.args.octets.now in
     let i = c.loop-octet.octet-index in
-    let bad = ap (λ b. b && known (drop (i + 1) octets)) (lt-leb _ 2 c.if-octet-gt-HIGHEST-MARK.true) in
+    let bad = ap (λ b. b && known (drop (i + 1) octets)) (lt-leb _ 2 c.if-octet-gt-HIGHEST_MARK.true) in
     record { answer = ap (λ b. b && leb (length octets) 64) (sym (known_more octets i c.loop-octet-test.true c.loop-octet.invariant ∙ bad)) }
 
 pub loop-octet-preserved : goal.loop-octet-preserved
 loop-octet-preserved c =
     let octets = c.args.octets.now in
     let i = c.loop-octet.octet-index in
-    let good = ap (λ b. b && known (drop (i + 1) octets)) (le-leb _ 2 c.if-octet-gt-HIGHEST-MARK.false) in
+    let good = ap (λ b. b && known (drop (i + 1) octets)) (le-leb _ 2 c.if-octet-gt-HIGHEST_MARK.false) in
     sym (known_more octets i c.loop-octet-test.true c.loop-octet.invariant ∙ good)
 
 pub returns : goal.returns

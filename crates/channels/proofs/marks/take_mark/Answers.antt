@@ -13,6 +13,6 @@ pub returns-in-len1-up : goal.returns-in-len1-up
 returns-in-len1-up c =
     let octets = c.args.octets.now in
     record {
-      answer = c.mark-of.ensures.answer ∙ first_next octets (omega (arith, ltb-false));
+      answer = c.mark_of.ensures.answer ∙ first_next octets (omega (arith, ltb-false));
       later = ap marks_of (take_rest octets 1) ∙ first_later octets;
     }

@@ -13,9 +13,9 @@ loop-octet-preserved c =
     let high : c.digit.result < 128 = rw c.digit.ensures.answer (digit_ascii _ (omega arith)) in
     let low : c.digit-in-loop-octet.result < 128 = rw c.digit-in-loop-octet.ensures.answer (digit_ascii _ (omega arith)) in
     let one : string_bytes c.push.new.self ≡ done ++ (c.digit.result ∷ []) =
-    pushed (c.digit.result ∷ []) refl c.in-ok-push.was (rw (c.push.ensures.ascii high) at c.push.ensures.bytes) in
+    pushed (c.digit.result ∷ []) refl c.in_ok-push.was (rw (c.push.ensures.ascii high) at c.push.ensures.bytes) in
     let two : string_bytes c.push-in-loop-octet.new.self ≡ (done ++ (c.digit.result ∷ [])) ++ (c.digit-in-loop-octet.result ∷ []) =
-    pushed (c.digit-in-loop-octet.result ∷ []) one c.in-ok-push-2.was (rw (c.push-in-loop-octet.ensures.ascii low) at c.push-in-loop-octet.ensures.bytes) in
+    pushed (c.digit-in-loop-octet.result ∷ []) one c.in_ok-push-2.was (rw (c.push-in-loop-octet.ensures.ascii low) at c.push-in-loop-octet.ensures.bytes) in
     ap (λ text. text ++ hexadecimal_of (drop (i + 1) octets)) two
     ∙ octet_more octets i _ _ done c.loop-octet-test.true c.digit.ensures.answer c.digit-in-loop-octet.ensures.answer
     ∙ c.loop-octet.invariant

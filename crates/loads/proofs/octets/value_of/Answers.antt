@@ -5,19 +5,19 @@ use Rattle.loads.specs.Octets.{value_of}
 use Rattle.loads.specs.ValuesLemmas.{room, below_more}
 use Rattle.loads.proofs.octets.value_of.Goals as goal
 
-pub overflow-mul-value : goal.overflow-mul-value
-overflow-mul-value c = omega (arith, room c.loop-octet.octet-index c.loop-octet.value c.loop-octet.invariant.1 (omega arith))
+pub overflow_mul-value : goal.overflow_mul-value
+overflow_mul-value c = omega (arith, room c.loop-octet.octet-index c.loop-octet.value c.loop-octet.invariant.1 (omega arith))
 
-pub overflow-add-value : goal.overflow-add-value
-overflow-add-value c =
-    omega (arith, room c.loop-octet.octet-index c.loop-octet.value c.loop-octet.invariant.1 (omega arith), c.type-inv.octets c.loop-octet.octet-index)
+pub overflow_add-value : goal.overflow_add-value
+overflow_add-value c =
+    omega (arith, room c.loop-octet.octet-index c.loop-octet.value c.loop-octet.invariant.1 (omega arith), c.type_inv.octets c.loop-octet.octet-index)
 
 pub loop-octet-preserved : goal.loop-octet-preserved
 loop-octet-preserved c =
     let octets = c.args.octets.now in
     let i = c.loop-octet.octet-index in
     let more = number_more 256 octets i c.loop-octet-test.true in
-    let small : c.from.result < 256 = omega (arith, c.type-inv.octets i) in (
+    let small : c.from.result < 256 = omega (arith, c.type_inv.octets i) in (
       omega (arith, more),
       below_more i c.loop-octet.value c.from.result c.loop-octet.invariant.1 small,
     )

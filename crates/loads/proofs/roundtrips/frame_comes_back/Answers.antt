@@ -11,7 +11,7 @@ returns g c =
     let frame = c.args.frame.now in
     let octets = frame_spelled kind.kind kind.spelled frame in
     let whole = frame_back kind.kind kind.size kind.reads kind.spelled frame laws.kind_bound laws.sized laws.back in
-    let back = comes_back (frame_reads kind.kind kind.size kind.reads) frame octets c.args.buffer.now (kind.size + 1) (omega (arith, laws.sized frame.load)) whole (sym c.write.ensures.answer ∙ c.in-ok-write.was) in
+    let back = comes_back (frame_reads kind.kind kind.size kind.reads) frame octets c.args.buffer.now (kind.size + 1) (omega (arith, laws.sized frame.load)) whole (sym c.write.ensures.answer ∙ c.in_ok-write.was) in
     record {
       answer = c.read.ensures.answer ∙ ap (frame_reads kind.kind kind.size kind.reads) (same_front (omega arith) c.write.ensures.after) ∙ back;
       after = c.write.ensures.after;

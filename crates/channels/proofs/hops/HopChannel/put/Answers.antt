@@ -15,5 +15,5 @@ returns g c =
     record {
       answer = c.put.ensures.answer ∙ ap put_answer all;
       after = (λ i. none i ++ c.put.ensures.after i) ∙ ap (λ w. put_leaves w frame) all;
-      own = subst (λ (b : Bool). HopPuts (Puts g.N.Channel.waiting g.N.Channel.puts) b hop frame (record { near = c.put.new.self; far = hop.far })) (sym free) ((c.put.ensures.after, c.put.ensures.own_val), refl);
+      own = subst (λ (b : Bool). HopPuts (Puts g.N.Channel.waiting g.N.Channel.puts) b hop frame (record { near = c.put.new.self; far = hop.far })) (sym free) ((c.put.ensures.after, c.put.ensures.own), refl);
     }
