@@ -3,3 +3,4 @@ pub mod BookLaws
 pub mod Buffers
 pub mod FrameLaws
 pub mod Returned
+pub mod Values

@@ -4,7 +4,7 @@ pub mod Faults
 pub mod Frames
 pub mod Maps
 pub mod Octets
+pub mod PieceLaws
 pub mod Pieces
 pub mod Readings
-pub mod PieceLaws
-pub mod ValuesLemmas
+pub mod ValueLaws

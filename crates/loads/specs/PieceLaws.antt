@@ -1,4 +1,5 @@
--- A piece comes back from its fields and from its octets. Assumes nothing.
+-- A piece comes back from its fields and from its octets: a law of the piece, which cites only what stands in specs/. Assumes
+-- nothing.
 use Rattle.std.specs.Prelude.{◌≡◌, ℕ, Bool, true, false, Ok, refl}
 use Rattle.std.proofs.Common.{ap, ◌∙◌}
 use Rattle.std.proofs.Math.Bool.{Bool-set}
@@ -6,7 +7,7 @@ use borrow.Author.Tests.{clash}
 use Rattle.loads.specs.declared.pieces.Piece.{Piece}
 use Rattle.loads.specs.Maps.{on_map}
 use Rattle.loads.specs.Pieces.{when_true, piece_of, piece_spelled, piece_reads}
-use Rattle.loads.specs.ValuesLemmas.{value_back}
+use Rattle.loads.specs.ValueLaws.{value_back}
 
 when_true-held : {X : Type 0} (b : Bool) (make : b ≡ true → X) (other : X) (held : b ≡ true) → when_true b make other ≡ make held
 when_true-held true make other held = ap make (Bool-set true true refl held)

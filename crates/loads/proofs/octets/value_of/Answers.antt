@@ -2,7 +2,7 @@ use Rattle.std.proofs.Common.{◌≡◌, ◌<◌, length, ap, ◌∙◌, arith}
 use Rattle.std.proofs.lemmas.Int.Digits.{number_more}
 use Rattle.std.proofs.lemmas.List.{take_all}
 use Rattle.loads.specs.Octets.{value_of}
-use Rattle.loads.specs.ValuesLemmas.{room, below_more}
+use Rattle.loads.proofs.Values.{room, below_more}
 use Rattle.loads.proofs.octets.value_of.Goals as goal
 
 pub overflow_mul-value : goal.overflow_mul-value

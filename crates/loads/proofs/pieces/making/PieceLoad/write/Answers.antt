@@ -2,7 +2,7 @@ use Rattle.std.proofs.Common.{◌≡◌, sym, refl, ◌∙◌, arith, rules}
 use Rattle.loads.specs.Octets.{big_endian}
 use Rattle.loads.specs.Pieces.{piece_spelled}
 use Rattle.loads.proofs.Buffers.{put_parts, filled_fits}
-use Rattle.loads.specs.ValuesLemmas.{spells}
+use Rattle.loads.proofs.Values.{spells}
 use Rattle.loads.proofs.pieces.making.PieceLoad.write.Goals as goal
 
 pub returns : goal.returns

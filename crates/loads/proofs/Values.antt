@@ -1,28 +1,10 @@
--- Numbers and their octets. Assumes nothing.
+-- What `to_be_bytes` gives, and the bounds of a number in octets. Assumes nothing.
 use Rattle.std.specs.Prelude.{◌≡◌, ℕ, zero, suc, ◌+◌, ◌*◌, ◌/◌, ◌%◌, ◌^◌, ◌<◌, ◌≤◌, List, [], ◌∷◌, refl}
-use Rattle.std.proofs.Common.{sym, ap, ◌∙◌, mul_assoc, add-mul, div-one, mod-lt, mod-eq_of_lt, div-add-mod', pow-suc, add-one, arith}
+use Rattle.std.proofs.Common.{sym, ap, ◌∙◌, div-one, mod-lt, mod-eq_of_lt, pow-suc, add-one, arith}
 use Rattle.std.proofs.Math.Nat.{pow-succ', pow-le-pow_right}
 use Rattle.std.proofs.Math.Arith.{mod-mul, digits_div, digits_mod}
-use Rattle.std.specs.Int.Digits.{number_from_digits_after}
-use Rattle.loads.specs.Octets.{big_endian, value_of}
-
-power_pos : (k : ℕ) → 0 < 256 ^ k
-power_pos zero = omega arith
-power_pos (suc k) = omega (arith, power_pos k, pow-suc 256 k)
-
--- a number comes back from its octets, below what was spelled before it
-back_after : (k a n : ℕ) → number_from_digits_after 256 a (big_endian (suc k) n) ≡ a * 256 ^ suc k + n
-back_after zero a n = omega arith
-back_after (suc k) a n =
-    let p : ℕ = 256 ^ suc k in
-    let whole : n / p * p + n % p ≡ n = div-add-mod' n p in
-    let above : (a * 256 + n / p) * p ≡ a * (256 * p) + n / p * p = add-mul (a * 256) (n / p) p ∙ ap (λ m. m + n / p * p) (mul_assoc a 256 p) in
-    let power : 256 ^ suc (suc k) ≡ 256 * p = pow-succ' 256 (suc k) in
-    back_after k (a * 256 + n / p) (n % p) ∙ rw power (omega arith)
-
--- a number comes back from its octets
-pub value_back : (k n : ℕ) → value_of (big_endian (suc k) n) ≡ n
-value_back k n = back_after k 0 n ∙ omega arith
+use Rattle.loads.specs.Octets.{big_endian}
+use Rattle.loads.specs.ValueLaws.{power_pos}
 
 -- the lowest octets of a number, as `to_be_bytes` gives them
 abbrev low_octets : ℕ → ℕ → List ℕ
