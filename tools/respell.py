@@ -1,8 +1,8 @@
 #!/usr/bin/env python3
 """Brings this repository's own definitions and lemmas to snake case, and its facts to upper camel case.
 
-Run once, at the top, right after the toolchain's own port script: tools/respell.py. Only whole names in crates/*.rt and
-crates/*.antt change; functions, strings, inputs and outputs keep theirs."""
+Run once, at the top, right after the toolchain's own port script: tools/respell.py. Only whole names change, in the .rt and
+.antt files of crates/; no function and no string has one of these."""
 import pathlib
 import re
 

@@ -1,5 +1,5 @@
--- A piece comes back from its fields and from its octets: a law of the piece, which cites only what stands in specs/. Assumes
--- nothing.
+-- A piece comes back from its fields and from its octets. A law of the piece cites this, and of its own crate a law cites only
+-- what stands in specs/. Assumes nothing.
 use Rattle.std.specs.Prelude.{◌≡◌, ℕ, Bool, true, false, Ok, refl}
 use Rattle.std.proofs.Common.{ap, ◌∙◌}
 use Rattle.std.proofs.Math.Bool.{Bool-set}

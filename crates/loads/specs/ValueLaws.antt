@@ -1,5 +1,5 @@
--- A number comes back from its octets. A law of the piece rests on it, and a law cites only what stands in specs/. Assumes
--- nothing.
+-- A number comes back from its octets. A law of the piece rests on this, and of its own crate a law cites only what stands in
+-- specs/. Assumes nothing.
 use Rattle.std.specs.Prelude.{◌≡◌, ℕ, zero, suc, ◌+◌, ◌*◌, ◌/◌, ◌%◌, ◌^◌, ◌<◌}
 use Rattle.std.proofs.Common.{ap, ◌∙◌, mul_assoc, add-mul, div-add-mod', pow-suc, arith}
 use Rattle.std.proofs.Math.Nat.{pow-succ'}

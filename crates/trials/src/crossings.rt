@@ -3,7 +3,6 @@ use channel::{Channel, Event, Poll};
 use loads::{Frame, Load};
 use std::fmt::Debug;
 use std::process::Abort;
-use std::test::Fail;
 
 // The first frame of a message, with its toggle off.
 pub fn opening<T>(load: T) -> Frame<T> {
@@ -40,7 +39,7 @@ pub fn follow<T: Load + Debug + PartialEq, C: Channel<T>>(
     rt: &impl Abort,
     channel: &mut C,
     events: &[Event<T>],
-) -> Result<(), Fail> {
+) {
     for event in events {
         let answered = match event {
             Event::Put(frame, _) => Event::Put(*frame, channel.put(frame)),
@@ -51,5 +50,4 @@ pub fn follow<T: Load + Debug + PartialEq, C: Channel<T>>(
             assert_eq!(rt; channel.holds(), waits);
         }
     }
-    Ok(())
 }

@@ -20,15 +20,15 @@ fn two_cross<T: Copy>(first: Frame<T>, second: Frame<T>) -> [Event<T>; 8] {
 }
 
 #[test]
-fn readings_cross_a_store_and_a_wire(rt: HostRuntime) -> Result<(), Fail> {
+fn readings_cross_a_store_and_a_wire(rt: HostRuntime) {
     let events = two_cross(
         opening(Reading { value: 7 }),
         closing(Reading {
             value: 4_294_967_295,
         }),
     );
-    follow(&rt, &mut Store::new(), &events)?;
-    follow(&rt, &mut Wire::new(), &events)
+    follow(&rt, &mut Store::new(), &events);
+    follow(&rt, &mut Wire::new(), &events);
 }
 
 #[test]
@@ -37,13 +37,14 @@ fn pieces_cross_a_store_and_a_wire(rt: HostRuntime) -> Result<(), Fail> {
         opening(Piece::new(0, 0, 0, 0, 0)?),
         closing(Piece::new(20, 1_048_575, 349_525, 3, 81_985_529_216_486_895)?),
     );
-    follow(&rt, &mut Store::new(), &events)?;
-    follow(&rt, &mut Wire::new(), &events)
+    follow(&rt, &mut Store::new(), &events);
+    follow(&rt, &mut Wire::new(), &events);
+    Ok(())
 }
 
 #[test]
-fn replies_cross_a_store_and_a_wire(rt: HostRuntime) -> Result<(), Fail> {
+fn replies_cross_a_store_and_a_wire(rt: HostRuntime) {
     let events = two_cross(opening(EmptyLoad), closing(EmptyLoad));
-    follow(&rt, &mut Store::new(), &events)?;
-    follow(&rt, &mut Wire::new(), &events)
+    follow(&rt, &mut Store::new(), &events);
+    follow(&rt, &mut Wire::new(), &events);
 }
