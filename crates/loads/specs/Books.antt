@@ -1,7 +1,7 @@
 -- A book: loads of one kind, read one after another.
-use Rattle.std.specs.Prelude.{ℕ, zero, suc, List, [], ◌∷◌, take, drop, Ok, Err, vec_items, Result}
-use Rattle.loads.specs.declared.books.Book.{Book}
+use Rattle.std.specs.Prelude.{ℕ, zero, suc, List, [], ◌∷◌, take, drop, Ok, Err, Result}
 use Rattle.loads.specs.declared.faults.Fault.{Fault}
+use Rattle.loads.specs.declared.kinds.Load.{Ghosts}
 
 module _ {T : Type 0} where
   -- a record that spells a load, before the loads behind it; one that spells none ends the book
@@ -9,11 +9,7 @@ module _ {T : Type 0} where
   before (Ok load) loads = load ∷ loads
   before (Err fault) loads = []
 
-  -- at most `count` loads, each from the next `size` octets
-  abbrev pub book_reads : ℕ → (List ℕ → Result T Fault) → ℕ → List ℕ → List T
-  book_reads size reads zero octets = []
-  book_reads size reads (suc count) octets = before (reads (take size octets)) (book_reads size reads count (drop size octets))
-
--- the loads of a book, in order
-abbrev pub loads_of : {T : Type 0} → Book T → List T
-loads_of book = vec_items book.loads
+  -- at most `count` loads, each from the next octets, as many as the kind has
+  abbrev pub book_reads : Ghosts T → ℕ → List ℕ → List T
+  book_reads kind zero octets = []
+  book_reads kind (suc count) octets = before (kind.reads (take kind.SIZE octets)) (book_reads kind count (drop kind.SIZE octets))

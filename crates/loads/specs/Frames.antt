@@ -3,6 +3,7 @@ use Rattle.std.specs.Prelude.{ℕ, ◌+◌, ◌/◌, ◌%◌, ◌^◌, Bool, con
 use Rattle.loads.specs.declared.faults.Fault.{Fault}
 use Rattle.loads.specs.declared.faults.Fault.TheVariants.{WrongLength, WrongKind}
 use Rattle.loads.specs.declared.frames.Frame.{Frame}
+use Rattle.loads.specs.declared.kinds.Load.{Ghosts}
 
 -- what a bit adds to its octet; bit 0 is the lowest
 abbrev pub bit_at : ℕ → Bool → ℕ
@@ -12,23 +13,29 @@ bit_at place on = cond on (2 ^ place) 0
 abbrev pub bit_on : ℕ → ℕ → Bool
 bit_on place octet = octet / 2 ^ place % 2 == 1
 
+-- the number of the kind in a header
+abbrev pub kind_of : ℕ → ℕ
+kind_of octet = octet % 2 ^ 5
+
 module _ {T : Type 0} where
-  -- the first octet: first in bit 7, last in bit 6, toggle in bit 5, the kind in bits 4 to 0
-  abbrev pub header : ℕ → Frame T → ℕ
-  header kind frame = bit_at 7 frame.first + (bit_at 6 frame.last + (bit_at 5 frame.toggle + kind))
-
-  -- the header, and then the load
-  abbrev pub frame_spelled : ℕ → (T → List ℕ) → Frame T → List ℕ
-  frame_spelled kind spelled frame = header kind frame ∷ spelled frame.load
-
   -- a load that was read, under the bits of a header
   abbrev pub framed : ℕ → Result T Fault → Result (Frame T) Fault
   framed octet (Ok load) = Ok (record { first = bit_on 7 octet; last = bit_on 6 octet; toggle = bit_on 5 octet; load = load })
   framed octet (Err fault) = Err fault
 
+-- by what the load kind says
+module _ {T : Type 0} (kind : Ghosts T) where
+  -- the first octet: first in bit 7, last in bit 6, toggle in bit 5, the kind in bits 4 to 0
+  abbrev pub header : Frame T → ℕ
+  header frame = bit_at 7 frame.first + (bit_at 6 frame.last + (bit_at 5 frame.toggle + kind.KIND))
+
+  -- the header, and then the load
+  abbrev pub frame_spelled : Frame T → List ℕ
+  frame_spelled frame = header frame ∷ kind.spelled frame.load
+
   -- what octets read as: first their number is looked at, then the kind, then the load
-  abbrev pub frame_reads : ℕ → ℕ → (List ℕ → Result T Fault) → List ℕ → Result (Frame T) Fault
-  frame_reads kind size reads octets =
-      cond (length octets == size + 1)
-      (cond (slice_index octets 0 % 2 ^ 5 == kind) (framed (slice_index octets 0) (reads (drop 1 octets))) (Err WrongKind))
+  abbrev pub frame_reads : List ℕ → Result (Frame T) Fault
+  frame_reads octets =
+      cond (length octets == kind.SIZE + 1)
+      (cond (kind_of (slice_index octets 0) == kind.KIND) (framed (slice_index octets 0) (kind.reads (drop 1 octets))) (Err WrongKind))
       (Err WrongLength)

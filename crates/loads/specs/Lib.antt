@@ -7,4 +7,5 @@ pub mod Octets
 pub mod PieceLaws
 pub mod Pieces
 pub mod Readings
+pub mod Refusals
 pub mod ValueLaws

@@ -1,6 +1,7 @@
 -- The piece of a map tile, made from fields and as octets.
 use Rattle.std.specs.Prelude.{◌≡◌, ℕ, Bool, true, false, cond, List, ◌∷◌, ◌++◌, length, Ok, Err, Result, ◌==◌, slice_index, refl}
 use Rattle.loads.specs.declared.faults.Fault.{Fault}
+use Rattle.loads.specs.declared.kinds.Load.{Ghosts}
 use Rattle.loads.specs.declared.faults.Fault.TheVariants.{WrongLength, OutsideRanges}
 use Rattle.loads.specs.declared.pieces.Piece.{Piece}
 use Rattle.loads.specs.Maps.{on_map}
@@ -36,3 +37,7 @@ piece_reads octets =
     cond (length octets == piece_size)
     (piece_of (slice_index octets 0) (field 1 4 octets) (field 5 4 octets) (field 9 2 octets) (field 11 8 octets))
     (Err WrongLength)
+
+-- the kind as a whole
+abbrev pub pieces : Ghosts Piece
+pieces = record { KIND = piece_kind; SIZE = piece_size; spelled = piece_spelled; reads = piece_reads }

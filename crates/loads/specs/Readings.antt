@@ -1,6 +1,7 @@
 -- The reading as octets.
 use Rattle.std.specs.Prelude.{ℕ, cond, List, length, Ok, Err, Result, ◌==◌}
 use Rattle.loads.specs.declared.faults.Fault.{Fault}
+use Rattle.loads.specs.declared.kinds.Load.{Ghosts}
 use Rattle.loads.specs.declared.faults.Fault.TheVariants.{WrongLength}
 use Rattle.loads.specs.declared.readings.Reading.{Reading}
 use Rattle.loads.specs.Octets.{big_endian, value_of}
@@ -20,3 +21,7 @@ reading_spelled x = big_endian 4 x.value
 -- octets of that number read as the reading of their value
 abbrev pub reading_reads : List ℕ → Result Reading Fault
 reading_reads octets = cond (length octets == reading_size) (Ok (record { value = value_of octets })) (Err WrongLength)
+
+-- the kind as a whole
+abbrev pub readings : Ghosts Reading
+readings = record { KIND = reading_kind; SIZE = reading_size; spelled = reading_spelled; reads = reading_reads }

@@ -5,20 +5,18 @@ ghost use Rattle.std.proofs.Common.{rules};
 use crate::faults::Fault;
 use crate::kinds::Load;
 
-// The number of the kind.
-const KIND: u8 = 0;
-
-// The octets of an empty load.
-const SIZE: usize = 0;
-
 // A load of no octets.
 #[derive(Clone, Copy, Debug, PartialEq, Eq)]
 pub struct EmptyLoad;
 
 impl Load for EmptyLoad {
-    ghost kind = { empty_kind };
+    const KIND: u8 = 0;
 
-    ghost size = { empty_size };
+    ghost KIND = { empty_kind };
+
+    const SIZE: usize = 0;
+
+    ghost SIZE = { empty_size };
 
     ghost spelled = { empty_spelled };
 
@@ -33,14 +31,6 @@ impl Load for EmptyLoad {
     ghost kind_bound = { Prim.search rules };
 
     ghost size_bound = { Prim.search rules };
-
-    fn kind_number() -> u8 {
-        KIND
-    }
-
-    fn octet_count() -> usize {
-        SIZE
-    }
 
     fn read(octets: &[u8]) -> Result<EmptyLoad, Fault> {
         if !octets.is_empty() {

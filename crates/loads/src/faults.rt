@@ -2,7 +2,9 @@
 ghost use Rattle.std.specs.Prelude.{◌≡◌, Some};
 ghost use Rattle.loads.specs.Faults.{number_of, fault_text};
 ghost use Rattle.loads.specs.declared.faults.Fault.TheVariants.{NoMemory};
+ghost use Rattle.std.proofs.Common.{rules};
 
+use crate::refusals::Refusal;
 use std::alloc::{AllocError, AllocFailed};
 use std::error::Error;
 use std::fmt;
@@ -11,29 +13,26 @@ use std::fmt;
 #[derive(Clone, Copy, Debug, PartialEq, Eq)]
 pub enum Fault {
     // The octets are not as many as the kind has, or the buffer is too short for them.
-    WrongLength,
+    WrongLength = 14,
     // The frame's kind is not the kind that is read.
-    WrongKind,
+    WrongKind = 15,
     // The fields are no piece of a map tile.
-    OutsideRanges,
+    OutsideRanges = 16,
     // What was to be made found no memory.
-    NoMemory,
+    NoMemory = 255,
 }
 
-impl Fault {
-    // The number by which this refusal is known outside.
-    pub fn number(self) -> u8
-        ensures answer { result ≡ number_of self }
-    {
-        match self {
-            Self::WrongLength => 14,
-            Self::WrongKind => 15,
-            Self::OutsideRanges => 16,
-            Self::NoMemory => 255,
-        }
+impl Refusal for Fault {
+    ghost number = { number_of };
+
+    ghost nonzero = { Prim.search rules };
+
+    fn number(&self) -> u8 {
+        *self as u8
     }
 }
 
+// By hand, since of a derived text no contract says what it is.
 impl fmt::Display for Fault {
     ghost output = { λ fault. Some (fault_text fault) };
 
@@ -45,6 +44,7 @@ impl fmt::Display for Fault {
 
 impl Error for Fault {}
 
+// This and the next by hand, since of a derived `From` no contract says which refusal it makes.
 impl From<AllocError> for Fault {
     ghost from_gives = { λ _ r. r ≡ NoMemory };
 
@@ -57,6 +57,6 @@ impl<T: Drop> From<AllocFailed<T>> for Fault {
     ghost from_gives = { λ _ r. r ≡ NoMemory };
 
     fn from(_refused: AllocFailed<T>) -> Fault {
-        <Fault as From<AllocError>>::from(AllocError)
+        AllocError.into()
     }
 }

@@ -8,25 +8,21 @@ use crate::faults::Fault;
 
 // A load kind. Its loads are values that other layers only copy.
 pub trait Load: Copy {
-    // the kind's number in a frame
-    ghost kind: { ℕ };
+    // The kind's number in a frame.
+    const KIND: u8;
 
-    // how many octets every load of the kind has
-    ghost size: { ℕ };
+    ghost KIND: { ℕ };
+
+    // How many octets every load of the kind has.
+    const SIZE: usize;
+
+    ghost SIZE: { ℕ };
 
     // the octets that a load is spelled as
     ghost spelled: { Self → List ℕ };
 
     // what octets read as
     ghost reads: { List ℕ → Result Self Fault };
-
-    // The kind's number.
-    fn kind_number() -> u8
-        ensures answer { result ≡ kind };
-
-    // How many octets a load has.
-    fn octet_count() -> usize
-        ensures answer { result ≡ size };
 
     // The load that octets spell.
     fn read(octets: &[u8]) -> Result<Self, Fault>
@@ -37,18 +33,32 @@ pub trait Load: Copy {
         ensures answer { result ≡ written (spelled self.now) buffer.old }
         ensures after { buffer.new ≡ filled (spelled self.now) buffer.old };
 
+    // The kind's number, as a call.
+    final fn kind_number() -> u8
+        ensures answer { result ≡ KIND }
+    {
+        Self::KIND
+    }
+
+    // How many octets a load has, as a call.
+    final fn octet_count() -> usize
+        ensures answer { result ≡ SIZE }
+    {
+        Self::SIZE
+    }
+
     // what was written reads back as the same load
     ghost back: { (x : Self) → reads (spelled x) ≡ Ok x };
 
     // the spelling has the kind's length
-    ghost sized: { (x : Self) → length (spelled x) ≡ size };
+    ghost sized: { (x : Self) → length (spelled x) ≡ SIZE };
 
     // octets of another number are turned down for that
-    ghost refused: { (octets : List ℕ) → (length octets ≢ size) → reads octets ≡ Err WrongLength };
+    ghost refused: { (octets : List ℕ) → (length octets ≢ SIZE) → reads octets ≡ Err WrongLength };
 
     // the number fits the five bits that a frame has for it
-    ghost kind_bound: { kind < 32 };
+    ghost kind_bound: { KIND < 32 };
 
     // a frame has at most 32 octets
-    ghost size_bound: { size ≤ 31 };
+    ghost size_bound: { SIZE ≤ 31 };
 }

@@ -4,13 +4,6 @@ ghost use Rattle.std.proofs.Common.{rules};
 
 use crate::faults::Fault;
 use crate::kinds::Load;
-use crate::octets::value_of;
-
-// The number of the kind.
-const KIND: u8 = 1;
-
-// The octets of a reading.
-const SIZE: usize = 4;
 
 // A number that a hut or a trail sensor reports.
 #[derive(Clone, Copy, Debug, PartialEq, Eq)]
@@ -19,9 +12,13 @@ pub struct Reading {
 }
 
 impl Load for Reading {
-    ghost kind = { reading_kind };
+    const KIND: u8 = 1;
 
-    ghost size = { reading_size };
+    ghost KIND = { reading_kind };
+
+    const SIZE: usize = 4;
+
+    ghost SIZE = { reading_size };
 
     ghost spelled = { reading_spelled };
 
@@ -37,29 +34,20 @@ impl Load for Reading {
 
     ghost size_bound = { Prim.search rules };
 
-    fn kind_number() -> u8 {
-        KIND
-    }
-
-    fn octet_count() -> usize {
-        SIZE
-    }
-
     fn read(octets: &[u8]) -> Result<Reading, Fault> {
-        if octets.len() != SIZE {
+        let Ok(octets) = octets.try_into() else {
             return Err(Fault::WrongLength);
-        }
-        Ok(Reading {
-            value: value_of(octets) as u32,
-        })
+        };
+        let value = u32::from_be_bytes(octets);
+        Ok(Reading { value })
     }
 
     fn write(&self, buffer: &mut [u8]) -> Result<(), Fault> {
-        let octets = self.value.to_be_bytes();
-        if buffer.len() < SIZE {
+        let Reading { value } = *self;
+        let Some(front) = buffer.first_chunk_mut() else {
             return Err(Fault::WrongLength);
-        }
-        buffer[0..SIZE].copy_from_slice(&octets);
+        };
+        *front = value.to_be_bytes();
         Ok(())
     }
 }

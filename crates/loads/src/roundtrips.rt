@@ -1,4 +1,5 @@
-// What is written reads back as itself: for every load kind, a load and a frame.
+// What is written reads back as itself: for every load kind, a load and a frame. Two functions, since the members of a trait
+// above `Load` for both would be a record without a name.
 ghost use Rattle.std.specs.Prelude.{◌≡◌, ◌+◌};
 ghost use Rattle.loads.specs.Frames.{frame_spelled};
 ghost use Rattle.loads.specs.Octets.{filled, returned};
@@ -9,18 +10,20 @@ use crate::kinds::Load;
 
 // Writes a load into a buffer and reads it from there: it is the same load.
 pub fn load_comes_back<T: Load>(load: &T, buffer: &mut [u8]) -> Result<T, Fault>
-    ensures answer { result ≡ returned T.size load.now buffer.old }
+    ensures answer { result ≡ returned T.SIZE load.now buffer.old }
     ensures after { buffer.new ≡ filled (T.spelled load.now) buffer.old }
 {
     load.write(buffer)?;
-    T::read(&buffer[0..T::octet_count()])
+    // from the front alone, since the buffer may be longer
+    T::read(&buffer[..T::SIZE])
 }
 
 // Writes a frame into a buffer and reads it from there: it is the same frame.
 pub fn frame_comes_back<T: Load>(frame: &Frame<T>, buffer: &mut [u8]) -> Result<Frame<T>, Fault>
-    ensures answer { result ≡ returned (T.size + 1) frame.now buffer.old }
-    ensures after { buffer.new ≡ filled (frame_spelled T.kind T.spelled frame.now) buffer.old }
+    ensures answer { result ≡ returned (T.SIZE + 1) frame.now buffer.old }
+    ensures after { buffer.new ≡ filled (frame_spelled T.Load frame.now) buffer.old }
 {
     frame.write(buffer)?;
-    Frame::<T>::read(&buffer[0..T::octet_count() + 1])
+    // from the front alone, since the buffer may be longer
+    Frame::<T>::read(&buffer[..Frame::<T>::octet_count()])
 }

@@ -7,19 +7,12 @@ ghost use Rattle.std.proofs.Common.{rules};
 
 use crate::faults::Fault;
 use crate::kinds::Load;
-use crate::octets::value_of;
 use crate::pieces::Piece;
 
 // The highest zoom that a map is drawn at.
 const ZOOM_LIMIT: u8 = 20;
 
-// The number of the kind.
-const KIND: u8 = 2;
-
-// The octets of a piece.
-const SIZE: usize = 19;
-
-// Whether a map has the tile of this zoom, column and row.
+// Whether a map has the tile of this zoom, column and row, which a piece has as fields of its own.
 fn on_map(zoom: u8, column: u32, row: u32) -> bool
     ensures answer { result ≡ on_map zoom column row }
 {
@@ -45,9 +38,13 @@ impl Piece {
 }
 
 impl Load for Piece {
-    ghost kind = { piece_kind };
+    const KIND: u8 = 2;
 
-    ghost size = { piece_size };
+    ghost KIND = { piece_kind };
+
+    const SIZE: usize = 19;
+
+    ghost SIZE = { piece_size };
 
     ghost spelled = { piece_spelled };
 
@@ -63,31 +60,21 @@ impl Load for Piece {
 
     ghost size_bound = { Prim.search rules };
 
-    fn kind_number() -> u8 {
-        KIND
-    }
-
-    fn octet_count() -> usize {
-        SIZE
-    }
-
     fn read(octets: &[u8]) -> Result<Piece, Fault> {
-        if octets.len() != SIZE {
+        if octets.len() != Self::SIZE {
             return Err(Fault::WrongLength);
         }
+        // by places: a pattern of all 19 octets takes more lines
         Piece::new(
             octets[0],
-            value_of(&octets[1..5]) as u32,
-            value_of(&octets[5..9]) as u32,
-            value_of(&octets[9..11]) as u16,
-            value_of(&octets[11..19]),
+            u32::from_be_bytes(octets[1..5].try_into().unwrap()),
+            u32::from_be_bytes(octets[5..9].try_into().unwrap()),
+            u16::from_be_bytes(octets[9..11].try_into().unwrap()),
+            u64::from_be_bytes(octets[11..19].try_into().unwrap()),
         )
     }
 
     fn write(&self, buffer: &mut [u8]) -> Result<(), Fault> {
-        if buffer.len() < SIZE {
-            return Err(Fault::WrongLength);
-        }
         let Piece {
             zoom,
             column,
@@ -95,11 +82,17 @@ impl Load for Piece {
             number,
             body,
         } = *self;
-        buffer[0] = zoom;
-        buffer[1..5].copy_from_slice(&column.to_be_bytes());
-        buffer[5..9].copy_from_slice(&row.to_be_bytes());
-        buffer[9..11].copy_from_slice(&number.to_be_bytes());
-        buffer[11..19].copy_from_slice(&body.to_be_bytes());
+        let Some(front) = buffer.first_chunk_mut() else {
+            return Err(Fault::WrongLength);
+        };
+        let [c0, c1, c2, c3] = column.to_be_bytes();
+        let [r0, r1, r2, r3] = row.to_be_bytes();
+        let [n0, n1] = number.to_be_bytes();
+        let [b0, b1, b2, b3, b4, b5, b6, b7] = body.to_be_bytes();
+        // as one array, so that no octet of the front is left as it was
+        *front = [
+            zoom, c0, c1, c2, c3, r0, r1, r2, r3, n0, n1, b0, b1, b2, b3, b4, b5, b6, b7,
+        ];
         Ok(())
     }
 }

@@ -2,7 +2,6 @@ use Rattle.std.proofs.Common.{◌≡◌, ◌-◌, ◌++◌, vec_items}
 use Rattle.loads.specs.Books.{book_reads}
 use Rattle.loads.proofs.books.Book.read.Given as goal
 
-abbrev pub invariant-loop-i : goal.invariant-loop-i
-invariant-loop-i g l =
-    let kind = g.T.Load in
-    vec_items l.loads ++ book_reads kind.size kind.reads (l.count - l._i) l.rest ≡ book_reads kind.size kind.reads l.count l.octets
+abbrev pub invariant-loop : goal.invariant-loop
+invariant-loop g l =
+    vec_items l.loads ++ book_reads g.T.Load (l.count - l.counter) l.rest ≡ book_reads g.T.Load l.count l.octets
