@@ -1,3 +1,4 @@
+pub mod Channels
 pub mod Rows
 pub mod Rules
 pub mod Words

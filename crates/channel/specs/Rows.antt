@@ -1,24 +1,25 @@
 -- A row of puts and polls on one channel, each with its answer.
 use Rattle.std.specs.Prelude.{◌≡◌, List, [], ◌∷◌, ◌++◌, Ok, Err}
 use Rattle.loads.specs.declared.frames.Frame.{Frame}
-use Rattle.channel.specs.declared.polls.Poll.{Poll}
 use Rattle.channel.specs.declared.polls.Poll.TheVariants as answer
 use Rattle.channel.specs.declared.rows.Call.{Call}
 use Rattle.channel.specs.declared.rows.Call.TheVariants as call
 use Rattle.channel.specs.declared.rows.Event.{Event}
 use Rattle.channel.specs.declared.rows.Event.TheVariants.{Put, Poll as Polled}
-use Rattle.channel.specs.Rules.{put_answer, Puts, Polls}
+use Rattle.channel.specs.declared.rules.Channel.{Ghosts}
+use Rattle.channel.specs.Rules.{put_answer}
+use Rattle.channel.specs.Channels.{Puts, Polls}
 
 -- the call of an event
 abbrev pub call_of : {T : Type 0} → Event T → Call T
 call_of (Put frame answer) = call.Put frame
 call_of (Polled answer) = call.Poll
 
-module _ {T C : Type 0} (waiting : C → List (Frame T)) (puts : C → Frame T → C → Type 0) (polls : C → Poll T → C → Type 0) where
+module _ {T C : Type 0} (channel : Ghosts C T) where
   -- one event, from a channel to what is left of it: by the rule, and as the implementation itself says
   abbrev pub Step : C → Event T → C → Type 0
-  Step before (Put frame answer) after = (answer ≡ put_answer (waiting before)) × Puts waiting puts before frame after
-  Step before (Polled answer) after = Polls waiting polls before answer after
+  Step before (Put frame answer) after = (answer ≡ put_answer (channel.waiting before)) × Puts channel before frame after
+  Step before (Polled answer) after = Polls channel before answer after
 
   -- events one after another
   abbrev pub Row : C → List (Event T) → C → Type 0

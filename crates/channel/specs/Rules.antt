@@ -43,12 +43,3 @@ module _ {T : Type 0} where
   abbrev pub held : List (Frame T) → Bool
   held [] = false
   held (oldest ∷ others) = true
-
-module _ {T C : Type 0} (waiting : C → List (Frame T)) where
-  -- all that is known of a put but its answer: the channel before, the frame, the channel after
-  abbrev pub Puts : (C → Frame T → C → Type 0) → C → Frame T → C → Type 0
-  Puts own before frame after = (waiting after ≡ put_leaves (waiting before) frame) × own before frame after
-
-  -- all that is known of a poll: the channel before, the answer, the channel after
-  abbrev pub Polls : (C → Poll T → C → Type 0) → C → Poll T → C → Type 0
-  Polls own before answer after = Allowed (waiting before) answer × (waiting after ≡ poll_leaves (waiting before) answer) × own before answer after

@@ -1,5 +1,6 @@
 -- The answers of a put and of a poll, as they are known outside.
-use Rattle.std.specs.Prelude.{ℕ, List, Ok, Err, codes, Result}
+use Rattle.std.specs.Prelude.{ℕ, List, codes, Result}
+use Rattle.loads.specs.Refusals.{answer_number}
 use Rattle.channel.specs.declared.polls.Poll.{Poll}
 use Rattle.channel.specs.declared.polls.Poll.TheVariants.{Empty, Still, Arrived, Lost}
 use Rattle.channel.specs.declared.refusals.Full.{Full}
@@ -10,8 +11,7 @@ full_number = 11
 
 -- the number of a put's answer
 abbrev pub put_number : Result (Unit {0}) Full → ℕ
-put_number (Ok done) = 0
-put_number (Err full) = full_number
+put_number answer = answer_number (λ full. full_number) answer
 
 -- the word of a poll's answer
 abbrev pub poll_word : {T : Type 0} → Poll T → List ℕ

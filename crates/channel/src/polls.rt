@@ -18,7 +18,7 @@ pub enum Poll<T> {
 }
 
 impl<T> Poll<T> {
-    // The word by which this answer is known outside.
+    // The word by which this answer is known outside. No `Display`, since a frame that arrived is printed beside it.
     pub fn word(&self) -> &'static str
         ensures answer { result.now ≡ poll_word self.now }
     {

@@ -1,16 +1,19 @@
 // Why a put is turned down.
-ghost use Rattle.std.specs.Prelude.{◌≡◌};
 ghost use Rattle.channel.specs.Words.{full_number};
+ghost use Rattle.std.proofs.Common.{rules};
+
+use loads::Refusal;
 
 // A frame waits already.
 #[derive(Clone, Copy, Debug, PartialEq, Eq)]
 pub struct Full;
 
-impl Full {
-    // The number by which this refusal is known outside.
-    pub fn number(self) -> u8
-        ensures answer { result ≡ full_number }
-    {
+impl Refusal for Full {
+    ghost number = { λ _. full_number };
+
+    ghost nonzero = { Prim.search rules };
+
+    fn number(&self) -> u8 {
         11
     }
 }

@@ -7,7 +7,7 @@ use crate::refusals::Full;
 use crate::rules::Channel;
 use loads::Frame;
 
-// A call of a channel that may change what waits.
+// A call of a channel that may change what waits. It is a value, and no closure: contracts compare it with the log.
 #[derive(Clone, Copy)]
 pub enum Call<T> {
     Put(Frame<T>),
@@ -25,7 +25,7 @@ impl<T: Copy> Call<T> {
     // Makes the call.
     fn make<C: Channel<T>>(&self, channel: &mut C) -> Event<T>
         ensures called { call_of result ≡ self.now }
-        ensures open_answer { Step C.waiting C.puts C.polls channel.old result channel.new }
+        ensures open_answer { Step C.Channel channel.old result channel.new }
     {
         match self {
             Call::Put(frame) => Event::Put(*frame, channel.put(frame)),
@@ -44,12 +44,13 @@ pub fn make_calls<T: Copy, C: Channel<T>>(
     ensures answer { result ≡ min (length calls.now) (length log.old) }
     ensures called { map call_of (take result log.new) ≡ take result calls.now }
     ensures later { drop result log.new ≡ drop result log.old }
-    ensures open_answers { Row C.waiting C.puts C.polls channel.old (take result log.new) channel.new }
+    ensures open_answers { Row C.Channel channel.old (take result log.new) channel.new }
     ensures conserved { Conserved (C.waiting channel.old) (take result log.new) (C.waiting channel.new) }
 {
     let count = calls.len().min(log.len());
-    for i in 0..count {
-        log[i] = calls[i].make(channel);
+    // by place in the log, since of a `zip` with its `iter_mut` nothing says what the log ends as
+    for (i, call) in calls[..count].iter().enumerate() {
+        log[i] = call.make(channel);
     }
     count
 }
