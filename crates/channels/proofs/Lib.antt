@@ -1,2 +1,1 @@
 pub mod HopLaws
-pub mod MarkLaws

@@ -2,5 +2,4 @@ pub mod Hops
 pub mod Marks
 pub mod Rains
 pub mod Singles
-pub mod Stores
 pub mod Wires

@@ -1,16 +1,24 @@
 // The hop: two channels in a row.
 ghost use Rattle.std.specs.Prelude.{◌≡◌};
-ghost use Rattle.channels.specs.Hops.{hop_waits, HopPuts, HopPolls};
-ghost use Rattle.channel.specs.Rules.{Puts, Polls, held};
+ghost use Rattle.channels.specs.Hops.{HopState, hop_waits, HopPuts, HopPolls};
+ghost use Rattle.channel.specs.Rules.{held};
 
 use channel::{Channel, Full, Poll};
 use loads::Frame;
+use std::marker::Model;
 
 // A frame is put into `near` and comes out of `far`.
 #[derive(Drop)]
 pub struct Hop<N, F> {
     near: N,
     far: F,
+}
+
+// Clauses see the two channels, and name no private field.
+impl<N, F> Model for Hop<N, F> {
+    ghost Value = { HopState N F };
+
+    ghost view = { λ hop. record { near = hop.near; far = hop.far } };
 }
 
 impl<N, F> Hop<N, F> {
@@ -31,12 +39,13 @@ impl<N, F> Hop<N, F> {
 }
 
 impl<T: Copy, N: Channel<T>, F: Channel<T>> Channel<T> for Hop<N, F> {
-    ghost waiting = { hop_waits N.waiting F.waiting };
+    ghost waiting = { hop_waits N.Channel F.Channel };
 
-    ghost puts = { λ before frame after. HopPuts (Puts N.waiting N.puts) (held (hop_waits N.waiting F.waiting before)) before frame after };
+    ghost puts = { λ before frame after. HopPuts N.Channel F.Channel (held (hop_waits N.Channel F.Channel before)) before frame after };
 
-    ghost polls = { λ before answer after. HopPolls (Polls N.waiting N.polls) (Puts F.waiting F.puts) (Polls F.waiting F.polls) (held (F.waiting before.far)) before answer after };
+    ghost polls = { λ before answer after. HopPolls N.Channel F.Channel (held (F.waiting before.far)) before answer after };
 
+    #[tactic(auto, using(crate::proofs::HopLaws::far_none))]
     fn put(&mut self, frame: &Frame<T>) -> Result<(), Full> {
         if self.holds() {
             return Err(Full);
@@ -50,8 +59,7 @@ impl<T: Copy, N: Channel<T>, F: Channel<T>> Channel<T> for Hop<N, F> {
         }
         match self.near.poll() {
             Poll::Arrived(frame) => {
-                // far holds nothing, so the frame is accepted
-                let _ = self.far.put(&frame);
+                self.far.put(&frame).unwrap();
                 Poll::Still
             }
             answer => answer,

@@ -1,12 +1,14 @@
 // The rain: a layer over any channel that loses and delays frames by given marks.
 ghost use Rattle.std.specs.Prelude.{◌≡◌};
-ghost use Rattle.channel.specs.Rules.{Puts, Polls, held};
+ghost use Rattle.std.proofs.Common.{rules};
+ghost use Rattle.channel.specs.Rules.{held};
 ghost use Rattle.channels.specs.Marks.{bad_marks_number};
-ghost use Rattle.channels.specs.Rains.{rain_state, rain_made, rain_of, lossy as lossy_answer, rain_waits, RainPuts, RainPolls};
+ghost use Rattle.channels.specs.Rains.{RainState, rain_of, lossy as lossy_answer, RainPuts, RainPolls};
 
-use crate::marks::{Mark, good_marks, take_mark};
+use crate::marks::{Mark, Marks};
 use channel::{Channel, Full, Poll};
-use loads::Frame;
+use loads::{Frame, Refusal};
+use std::marker::Model;
 
 // A channel under marks, one for each frame that it accepts.
 #[derive(Drop)]
@@ -14,8 +16,14 @@ pub struct Rain<'m, C> {
     below: C,
     // that of the frame which waits
     mark: Mark,
-    // those of the frames to come
-    ahead: &'m [u8],
+    ahead: Marks<'m>,
+}
+
+// Clauses see a rain as its channel, the mark of the frame that waits, and the marks to come.
+impl<'m, C> Model for Rain<'m, C> {
+    ghost Value = { RainState C };
+
+    ghost view = { λ rain. record { below = rain.below; mark = rain.mark; ahead = rain.ahead } };
 }
 
 // A mark is above 2, or there is a 65th. The channel that was to be below comes back.
@@ -24,11 +32,12 @@ pub struct BadMarks<C> {
     pub below: C,
 }
 
-impl<C> BadMarks<C> {
-    // The number by which this refusal is known outside.
-    pub fn number(&self) -> u8
-        ensures answer { result ≡ bad_marks_number }
-    {
+impl<C> Refusal for BadMarks<C> {
+    ghost number = { λ _. bad_marks_number };
+
+    ghost nonzero = { Prim.search rules };
+
+    fn number(&self) -> u8 {
         21
     }
 }
@@ -36,15 +45,15 @@ impl<C> BadMarks<C> {
 impl<'m, C> Rain<'m, C> {
     // A rain over a channel, with up to 64 marks of at most 2.
     pub fn new(below: C, marks: &'m [u8]) -> Result<Rain<'m, C>, BadMarks<C>>
-        ensures answer { rain_made result ≡ rain_of below marks.now }
+        ensures answer { result ≡ rain_of below marks.now }
     {
-        if !good_marks(marks) {
+        let Some(ahead) = Marks::read(marks) else {
             return Err(BadMarks { below });
-        }
+        };
         Ok(Rain {
             below,
             mark: Mark::Pass,
-            ahead: marks,
+            ahead,
         })
     }
 
@@ -72,17 +81,15 @@ fn lossy<T: Copy>(answer: Poll<T>) -> Poll<T>
 }
 
 impl<'m, T: Copy, C: Channel<T>> Channel<T> for Rain<'m, C> {
-    ghost waiting = { rain_waits C.waiting };
+    ghost waiting = { λ rain. C.waiting rain.below };
 
-    ghost puts = { λ before frame after. RainPuts (Puts C.waiting C.puts) (held (C.waiting before.below)) (rain_state before) frame (rain_state after) };
+    ghost puts = { λ before frame after. RainPuts C.Channel (held (C.waiting before.below)) before frame after };
 
-    ghost polls = { λ before answer after. RainPolls (Polls C.waiting C.polls) before.mark (held (C.waiting before.below)) (rain_state before) answer (rain_state after) };
+    ghost polls = { λ before answer after. RainPolls C.Channel before.mark (held (C.waiting before.below)) before answer after };
 
     fn put(&mut self, frame: &Frame<T>) -> Result<(), Full> {
         self.below.put(frame)?;
-        let (mark, later) = take_mark(self.ahead);
-        self.mark = mark;
-        self.ahead = later;
+        self.mark = self.ahead.take();
         Ok(())
     }
 
@@ -90,14 +97,11 @@ impl<'m, T: Copy, C: Channel<T>> Channel<T> for Rain<'m, C> {
         match self.mark {
             Mark::Pass => self.below.poll(),
             Mark::Lose => lossy(self.below.poll()),
-            Mark::Delay => {
-                if self.holds() {
-                    self.mark = Mark::Pass;
-                    Poll::Still
-                } else {
-                    Poll::Empty
-                }
+            Mark::Delay if self.holds() => {
+                self.mark = Mark::Pass;
+                Poll::Still
             }
+            Mark::Delay => Poll::Empty,
         }
     }
 

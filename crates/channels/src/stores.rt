@@ -1,10 +1,11 @@
 // The store: a channel that keeps one frame and loses none.
-ghost use Rattle.std.specs.Prelude.{◌≡◌, []};
-ghost use Rattle.channels.specs.Singles.{arrival};
-ghost use Rattle.channels.specs.Stores.{store_waits};
+ghost use Rattle.std.specs.Prelude.{◌≡◌, List, []};
+ghost use Rattle.loads.specs.declared.frames.Frame.{Frame};
+ghost use Rattle.channels.specs.Singles.{only, arrival};
 
 use channel::{Channel, Full, Poll};
 use loads::Frame;
+use std::marker::Model;
 
 // Room for one frame.
 #[derive(Drop)]
@@ -12,19 +13,26 @@ pub struct Store<T> {
     frame: Option<Frame<T>>,
 }
 
+// Clauses see the frames that wait.
+impl<T> Model for Store<T> {
+    ghost Value = { List (Frame T) };
+
+    ghost view = { λ store. only store.frame };
+}
+
 impl<T> Store<T> {
     // A store in which nothing waits.
     pub fn new() -> Store<T>
-        ensures answer { store_waits result ≡ [] }
+        ensures answer { result ≡ [] }
     {
         Store { frame: None }
     }
 }
 
 impl<T: Copy> Channel<T> for Store<T> {
-    ghost waiting = { store_waits };
+    ghost waiting = { λ frames. frames };
 
-    ghost polls = { λ before answer _. answer ≡ arrival (store_waits before) };
+    ghost polls = { λ before answer _. answer ≡ arrival before };
 
     fn put(&mut self, frame: &Frame<T>) -> Result<(), Full> {
         if self.holds() {
@@ -35,10 +43,7 @@ impl<T: Copy> Channel<T> for Store<T> {
     }
 
     fn poll(&mut self) -> Poll<T> {
-        match self.frame.take() {
-            Some(frame) => Poll::Arrived(frame),
-            None => Poll::Empty,
-        }
+        self.frame.take().map_or(Poll::Empty, Poll::Arrived)
     }
 
     fn holds(&self) -> bool {

@@ -7,7 +7,8 @@ use channel::{Channel, Full, Poll};
 use loads::{Frame, LONGEST_FRAME, Load};
 use std::marker::PhantomData;
 
-// Room for the octets of one frame, which begin at the front.
+// Room for the octets of one frame, which begin at the front. It has no `Model`, whose view would read the octets by the
+// load kind: then `T: Load` would be asked wherever the type is named.
 #[derive(Drop)]
 pub struct Wire<T> {
     octets: Option<[u8; LONGEST_FRAME]>,
@@ -17,7 +18,7 @@ pub struct Wire<T> {
 impl<T: Load> Wire<T> {
     // A wire in which nothing waits.
     pub fn new() -> Wire<T>
-        ensures answer { wire_waits T.kind T.size T.reads result ≡ [] }
+        ensures answer { wire_waits T.Load result ≡ [] }
     {
         Wire {
             octets: None,
@@ -27,19 +28,17 @@ impl<T: Load> Wire<T> {
 
     // The frame that the octets spell, if they spell one.
     fn frame(&self) -> Option<Frame<T>>
-        ensures answer { result ≡ spelt T.kind T.size T.reads self.now.octets }
+        ensures answer { result ≡ spelt T.Load self.now.octets }
     {
-        let Some(octets) = &self.octets else {
-            return None;
-        };
-        Frame::<T>::read(&octets[0..T::octet_count() + 1]).ok()
+        let octets = self.octets.as_ref()?;
+        Frame::<T>::read(&octets[..Frame::<T>::octet_count()]).ok()
     }
 }
 
 impl<T: Load> Channel<T> for Wire<T> {
-    ghost waiting = { wire_waits T.kind T.size T.reads };
+    ghost waiting = { wire_waits T.Load };
 
-    ghost polls = { λ before answer _. answer ≡ arrival (wire_waits T.kind T.size T.reads before) };
+    ghost polls = { λ before answer _. answer ≡ arrival (wire_waits T.Load before) };
 
     fn put(&mut self, frame: &Frame<T>) -> Result<(), Full> {
         if self.holds() {
@@ -52,10 +51,7 @@ impl<T: Load> Channel<T> for Wire<T> {
     fn poll(&mut self) -> Poll<T> {
         let frame = self.frame();
         self.octets = None;
-        match frame {
-            Some(frame) => Poll::Arrived(frame),
-            None => Poll::Empty,
-        }
+        frame.map_or(Poll::Empty, Poll::Arrived)
     }
 
     fn holds(&self) -> bool {
