@@ -1,11 +1,12 @@
--- A frame of whichever kind its first octet names.
-use Rattle.std.specs.Prelude.{ℕ, ◌%◌, cond, List, length, Ok, Err, Result, ◌==◌, slice_index}
+-- A frame of whichever kind its first octet names, and its text.
+use Rattle.std.specs.Prelude.{ℕ, Bool, cond, List, ◌++◌, length, Ok, Err, Result, codes, decimal, ◌==◌, slice_index}
 use Rattle.loads.specs.declared.faults.Fault.{Fault}
 use Rattle.loads.specs.declared.faults.Fault.TheVariants.{WrongLength, WrongKind}
-use Rattle.loads.specs.Empties.{empty_kind, empty_size, empty_reads}
-use Rattle.loads.specs.Readings.{reading_kind, reading_size, reading_reads}
-use Rattle.loads.specs.Pieces.{piece_kind, piece_size, piece_reads}
-use Rattle.loads.specs.Frames.{frame_reads}
+use Rattle.loads.specs.declared.frames.Frame.{Frame}
+use Rattle.loads.specs.Empties.{empty_kind, empties}
+use Rattle.loads.specs.Readings.{reading_kind, readings}
+use Rattle.loads.specs.Pieces.{piece_kind, pieces}
+use Rattle.loads.specs.Frames.{kind_of, frame_reads}
 use Rattle.frametext.specs.declared.anyframes.AnyFrame.{AnyFrame}
 use Rattle.frametext.specs.declared.anyframes.AnyFrame.TheVariants.{Empty, Reading, Piece}
 
@@ -17,11 +18,31 @@ any_of of (Err fault) = Err fault
 -- the frame of a kind, refused where no load has that kind
 abbrev pub of_kind : ℕ → List ℕ → Result AnyFrame Fault
 of_kind kind octets =
-    cond (kind == empty_kind) (any_of Empty (frame_reads empty_kind empty_size empty_reads octets))
-    (cond (kind == reading_kind) (any_of Reading (frame_reads reading_kind reading_size reading_reads octets))
-    (cond (kind == piece_kind) (any_of Piece (frame_reads piece_kind piece_size piece_reads octets))
+    cond (kind == empty_kind) (any_of Empty (frame_reads empties octets))
+    (cond (kind == reading_kind) (any_of Reading (frame_reads readings octets))
+    (cond (kind == piece_kind) (any_of Piece (frame_reads pieces octets))
     (Err WrongKind)))
 
 -- the frame that octets spell; without a first octet their number is wrong
 abbrev pub any_reads : List ℕ → Result AnyFrame Fault
-any_reads octets = cond (length octets == 0) (Err WrongLength) (of_kind (slice_index octets 0 % 32) octets)
+any_reads octets = cond (length octets == 0) (Err WrongLength) (of_kind (kind_of (slice_index octets 0)) octets)
+
+-- a bit as a word
+abbrev pub on_off : Bool → List ℕ
+on_off bit = cond bit (codes "on") (codes "off")
+
+-- the three bits of a frame
+abbrev pub bits_text : {T : Type 0} → Frame T → List ℕ
+bits_text f = codes "first " ++ (on_off f.first ++ (codes ", last " ++ (on_off f.last ++ (codes ", toggle " ++ on_off f.toggle))))
+
+-- the bits and the load of a frame, its numbers in decimal
+abbrev pub frame_text : AnyFrame → List ℕ
+frame_text (Empty f) = bits_text f ++ codes ", empty load"
+frame_text (Reading f) = bits_text f ++ (codes ", reading " ++ decimal f.load.value)
+frame_text (Piece f) =
+    bits_text f
+    ++ (codes ", piece zoom " ++ (decimal f.load.zoom
+    ++ (codes " column " ++ (decimal f.load.column
+    ++ (codes " row " ++ (decimal f.load.row
+    ++ (codes " number " ++ (decimal f.load.number
+    ++ (codes " body " ++ decimal f.load.body)))))))))
