@@ -1,5 +1,5 @@
 // Writes frames and shows what their octets read back as and how a damaged copy is turned down, and then does the same
-// with the octets of standard input.
+// with the octets of standard input. Each worked frame has a function, since its contract has the octets written out.
 
 #![tactic(auto)]
 
@@ -8,18 +8,18 @@ ghost use Rattle.loads.specs.declared.faults.Fault.TheVariants.{NoMemory};
 ghost use Rattle.frametext.specs.Lines.{lines};
 
 use frametext::{frame_line, frame_lines};
-use loads::{EmptyLoad, Fault, Frame, Piece, Reading};
+use loads::{EmptyLoad, Fault, Frame, LONGEST_FRAME, Piece, Reading};
 use std::alloc::Global;
 use std::io::Read;
 
 // One octet more than the longest frame, so that a longer input is seen to be too long.
-const INPUT_LIMIT: u64 = 33;
+const INPUT_LIMIT: u64 = LONGEST_FRAME as u64 + 1;
 
 // The first piece of a message, and a copy with a zoom that no map has.
 fn piece_lines(heap: Global) -> Result<String, Fault>
     ensures cases { MatchResult result (λ text. string_bytes text ≡ lines (0x82 ∷ 0x14 ∷ 0x00 ∷ 0x0F ∷ 0xFF ∷ 0xFF ∷ 0x00 ∷ 0x05 ∷ 0x55 ∷ 0x55 ∷ 0x00 ∷ 0x03 ∷ 0x01 ∷ 0x23 ∷ 0x45 ∷ 0x67 ∷ 0x89 ∷ 0xAB ∷ 0xCD ∷ 0xEF ∷ []) 1 21) (λ fault. fault ≡ NoMemory) }
 {
-    let load = Piece::new(20, 1_048_575, 349_525, 3, 0x0123_4567_89AB_CDEF)?;
+    let load = Piece::new(20, 1_048_575, 349_525, 3, 0x0123_4567_89AB_CDEF).unwrap();
     let frame = Frame {
         first: true,
         last: false,
@@ -57,7 +57,7 @@ fn reply_lines(heap: Global) -> Result<String, Fault>
     frame_lines(heap, &frame, 0, 0x61)
 }
 
-fn show(rt: &HostRuntime) -> anyhow::Result<()> {
+fn main(rt: HostRuntime) -> anyhow::Result<()> {
     rt.println(piece_lines(rt.alloc())?)?;
     rt.println(reading_lines(rt.alloc())?)?;
     rt.println(reply_lines(rt.alloc())?)?;
@@ -65,8 +65,4 @@ fn show(rt: &HostRuntime) -> anyhow::Result<()> {
     rt.stdin().take(INPUT_LIMIT).read_to_end(&mut octets)?;
     rt.println(frame_line(rt.alloc(), "input", octets.as_slice())?)?;
     Ok(())
-}
-
-fn main(rt: HostRuntime) -> anyhow::Result<()> {
-    show(&rt)
 }

@@ -1,228 +1,189 @@
 -- A rain over a hop from one channel that never loses to another: what it answers is worked out from its marks.
-use Rattle.std.proofs.Common.{◌≡◌, Bool, true, false, List, [], ◌∷◌, ◌++◌, map, Ok, Err, Result, refl, ap, ◌∙◌, subst}
+use Rattle.std.proofs.Common.{◌≡◌, Bool, true, false, List, [], ◌∷◌, map, refl, ap, ◌∙◌, subst}
 use Rattle.loads.specs.declared.frames.Frame.{Frame}
 use Rattle.channel.specs.declared.polls.Poll.{Poll}
-use Rattle.channel.specs.declared.polls.Poll.TheVariants.{Empty, Still, Arrived}
+use Rattle.channel.specs.declared.polls.Poll.TheVariants.{Empty, Still, Arrived, Lost}
 use Rattle.channel.specs.declared.rows.Call.{Call}
 use Rattle.channel.specs.declared.rows.Call.TheVariants as call
 use Rattle.channel.specs.declared.rows.Event.{Event}
 use Rattle.channel.specs.declared.rows.Event.TheVariants.{Put, Poll as Polled}
+use Rattle.channel.specs.declared.rules.Channel.{Ghosts}
 use Rattle.channel.specs.Rows.{call_of, Row}
-use Rattle.channel.specs.Rules.{put_answer, put_leaves, poll_leaves, rest, held, Puts, Polls}
-use Rattle.channels.specs.declared.hops.Hop.{Hop}
+use Rattle.channel.specs.Rules.{put_answer, put_leaves, poll_leaves, held}
 use Rattle.channels.specs.declared.marks.Mark.{Mark}
 use Rattle.channels.specs.declared.marks.Mark.TheVariants.{Pass, Lose, Delay}
-use Rattle.channels.specs.declared.rains.Rain.{Rain}
-use Rattle.channels.specs.Hops.{hop_waits, Moved, HopPuts, HopPolls}
-use Rattle.channels.specs.Marks.{marks_of, next_mark, later_marks}
-use Rattle.channels.specs.Rains.{RainState, rain_state, lossy, rain_waits, RainPuts, RainPolls}
+use Rattle.channels.specs.Hops.{HopState, hop_waits, Moved, HopPuts, HopPolls}
+use Rattle.channels.specs.Marks.{next_mark, later_marks}
+use Rattle.channels.specs.Rains.{RainState, lossy, RainPuts, RainPolls}
 use Rattle.channels.specs.Singles.{arrival}
 
--- a pile as plain values: the mark of the frame that waits, the marks to come, and what waits in near and in far
-pub record State (T : Type 0) : Type 0 where
-  pub mark : Mark
-  pub ahead : List Mark
-  pub near : List (Frame T)
-  pub far : List (Frame T)
+module _ {T : Type 0} where
+  -- a channel of which this waits: it says nothing of its puts, and of its polls that the oldest frame arrives
+  abbrev pub single : {C : Type 0} → (C → List (Frame T)) → Ghosts C T
+  single waits = record { waiting = waits; puts = λ _ _ _. Unit {0}; polls = λ before answer _. answer ≡ arrival (waits before) }
 
--- the mark that a poll at Delay leaves, by whether a frame waits
-abbrev mark_left : Bool → Mark
-mark_left true = Pass
-mark_left false = Delay
+  -- a hop of two channels, and a rain over one
+  abbrev pub as_hop : {N F : Type 0} → Ghosts N T → Ghosts F T → Ghosts (HopState N F) T
+  as_hop near far = record {
+    waiting = hop_waits near far;
+    puts = λ before frame after. HopPuts near far (held (hop_waits near far before)) before frame after;
+    polls = λ before answer after. HopPolls near far (held (far.waiting before.far)) before answer after;
+  }
+
+  abbrev pub as_rain : {C : Type 0} → Ghosts C T → Ghosts (RainState C) T
+  as_rain below = record {
+    waiting = λ rain. below.waiting rain.below;
+    puts = λ before frame after. RainPuts below (held (below.waiting before.below)) before frame after;
+    polls = λ before answer after. RainPolls below before.mark (held (below.waiting before.below)) before answer after;
+  }
+
+-- a hop and a rain over it, of which the frames that wait are known and nothing else
+abbrev pub Pair : Type 0 → Type 0
+Pair T = HopState (List (Frame T)) (List (Frame T))
+
+abbrev pub Pile : Type 0 → Type 0
+Pile T = RainState (Pair T)
 
 module _ {T : Type 0} where
-  -- a hop by what waits in far and in near: its answer, and what it leaves in each
+  abbrev listed : Ghosts (List (Frame T)) T
+  listed = single (λ frames. frames)
+
+  abbrev pair : Ghosts (Pair T) T
+  pair = as_hop listed listed
+
+  -- a put leaves this of the hop, by whether a frame waits
+  abbrev hop_put : Bool → Pair T → Frame T → Pair T
+  hop_put true hop frame = hop
+  hop_put false hop frame = record { near = put_leaves hop.near frame; far = hop.far }
+
+  hop_puts : (holding : Bool) (before after : Pair T) (frame : Frame T) → HopPuts listed listed holding before frame after → after ≡ hop_put holding before frame
+  hop_puts true before after frame own = own
+  hop_puts false before after frame own = λ i. record { near = own.0.0 i; far = own.1 i }
+
+  -- the hop's answer to a poll, by what waits in far and in near, and what is left of the hop
   abbrev hop_says : List (Frame T) → List (Frame T) → Poll T
   hop_says [] [] = Empty
-  hop_says [] (frame ∷ frames) = Still
-  hop_says (frame ∷ frames) near = Arrived frame
+  hop_says [] (oldest ∷ others) = Still
+  hop_says (oldest ∷ others) near = Arrived oldest
 
-  abbrev far_left : List (Frame T) → List (Frame T) → List (Frame T)
-  far_left [] [] = []
-  far_left [] (frame ∷ frames) = frame ∷ []
-  far_left (frame ∷ frames) near = frames
+  abbrev hop_left : List (Frame T) → List (Frame T) → Pair T
+  hop_left [] [] = record { near = []; far = [] }
+  hop_left [] (oldest ∷ others) = record { near = others; far = oldest ∷ [] }
+  hop_left (oldest ∷ others) near = record { near = near; far = others }
 
-  abbrev near_left : List (Frame T) → List (Frame T) → List (Frame T)
-  near_left [] near = rest near
-  near_left (frame ∷ frames) near = near
+  hop_polls : (far near : List (Frame T)) (after : Pair T) (answer : Poll T)
+      → HopPolls listed listed (held far) (record { near = near; far = far }) answer after
+      → (answer ≡ hop_says far near) × (after ≡ hop_left far near)
+  hop_polls [] [] after answer own =
+      let shift = subst (λ (heard : Poll T). Moved listed listed heard [] answer after.far) own.1.2 own.2 in
+      (shift.0, λ i. record { near = (own.1.1 ∙ ap (poll_leaves []) own.1.2) i; far = shift.1 i })
+  hop_polls [] (oldest ∷ others) after answer own =
+      let shift = subst (λ (heard : Poll T). Moved listed listed heard [] answer after.far) own.1.2 own.2 in
+      (shift.0, λ i. record { near = (own.1.1 ∙ ap (poll_leaves (oldest ∷ others)) own.1.2) i; far = shift.1.0 i })
+  hop_polls (oldest ∷ others) near after answer own =
+      (own.0.2, λ i. record { near = own.1 i; far = (own.0.1 ∙ ap (poll_leaves (oldest ∷ others)) own.0.2) i })
 
-  -- what a put leaves in near, by whether a frame waits
-  abbrev near_put : Bool → List (Frame T) → Frame T → List (Frame T)
-  near_put true near frame = near
-  near_put false near frame = put_leaves near frame
+  -- a put leaves this of the pile, by whether a frame waits
+  abbrev pile_put : Bool → Pile T → Frame T → Pile T
+  pile_put true pile frame = pile
+  pile_put false pile frame =
+      record { below = hop_put false pile.below frame; mark = next_mark pile.ahead; ahead = later_marks pile.ahead }
 
-  -- the answer to a poll at Delay, by whether a frame waits
-  abbrev delayed : Bool → Poll T
-  delayed true = Still
-  delayed false = Empty
+  pile_puts : (holding : Bool) (before after : Pile T) (frame : Frame T) → held (pair.waiting before.below) ≡ holding
+      → RainPuts pair holding before frame after → after ≡ pile_put holding before frame
+  pile_puts true before after frame same own =
+      let below = hop_puts true before.below after.below frame (subst (λ (b : Bool). HopPuts listed listed b before.below frame after.below) same own.0.1) in
+      own.1 ∙ (λ i. record { below = below i; mark = before.mark; ahead = before.ahead })
+  pile_puts false before after frame same own =
+      let below = hop_puts false before.below after.below frame (subst (λ (b : Bool). HopPuts listed listed b before.below frame after.below) same own.0.1) in
+      own.1 ∙ (λ i. record { below = below i; mark = next_mark before.ahead; ahead = later_marks before.ahead })
 
-  -- the pile's answer to a poll, by whether a frame waits and by the mark, and what it leaves
-  abbrev says : Bool → Mark → List (Frame T) → List (Frame T) → Poll T
-  says holding Pass far near = hop_says far near
-  says holding Lose far near = lossy (hop_says far near)
-  says holding Delay far near = delayed holding
+  -- the pile's answer to a poll, by whether a frame waits and by the mark, and what is left of the pile
+  abbrev pile_says : Bool → Mark → Pair T → Poll T
+  pile_says holding Pass hop = hop_says hop.far hop.near
+  pile_says holding Lose hop = lossy (hop_says hop.far hop.near)
+  pile_says true Delay hop = Still
+  pile_says false Delay hop = Empty
 
-  abbrev polled : Bool → Mark → List Mark → List (Frame T) → List (Frame T) → State T
-  polled holding Pass ahead far near = record { mark = Pass; ahead = ahead; near = near_left far near; far = far_left far near }
-  polled holding Lose ahead far near = record { mark = Lose; ahead = ahead; near = near_left far near; far = far_left far near }
-  polled holding Delay ahead far near = record { mark = mark_left holding; ahead = ahead; near = near; far = far }
+  abbrev pile_left : Bool → Mark → Pile T → Pile T
+  pile_left holding Pass pile = record { below = hop_left pile.below.far pile.below.near; mark = Pass; ahead = pile.ahead }
+  pile_left holding Lose pile = record { below = hop_left pile.below.far pile.below.near; mark = Lose; ahead = pile.ahead }
+  pile_left true Delay pile = record { below = pile.below; mark = Pass; ahead = pile.ahead }
+  pile_left false Delay pile = pile
 
-  -- what a put leaves of the pile, by whether a frame waits
-  abbrev put_in : Bool → State T → Frame T → State T
-  put_in true state frame =
-      record { mark = state.mark; ahead = state.ahead; near = near_put true state.near frame; far = state.far }
-  put_in false state frame =
-      record { mark = next_mark state.ahead; ahead = later_marks state.ahead; near = near_put false state.near frame; far = state.far }
-
-  -- whether a frame waits
-  abbrev holds : State T → Bool
-  holds state = held (state.far ++ state.near)
+  pile_polls : (holding : Bool) (mark : Mark) (before after : Pile T) (answer : Poll T) → RainPolls pair mark holding before answer after
+      → (answer ≡ pile_says holding mark before.below) × (after ≡ pile_left holding mark before)
+  pile_polls holding Pass before after answer own =
+      let below = hop_polls before.below.far before.below.near after.below answer own.0.2 in
+      (below.0, own.1 ∙ (λ i. record { below = below.1 i; mark = Pass; ahead = before.ahead }))
+  pile_polls holding Lose before after answer own =
+      let below = hop_polls before.below.far before.below.near after.below own.0.0 own.0.1.2 in
+      (own.0.2 ∙ ap lossy below.0, own.1 ∙ (λ i. record { below = below.1 i; mark = Lose; ahead = before.ahead }))
+  pile_polls true Delay before after answer own = own
+  pile_polls false Delay before after answer own = own
 
   -- calls one after another, with their answers
-  abbrev pub run : State T → List (Call T) → List (Event T)
-  run state [] = []
-  run state (call.Put frame ∷ calls) =
-      Put frame (put_answer (state.far ++ state.near)) ∷ run (put_in (holds state) state frame) calls
-  run state (call.Poll ∷ calls) =
-      Polled (says (holds state) state.mark state.far state.near)
-      ∷ run (polled (holds state) state.mark state.ahead state.far state.near) calls
+  abbrev pub run : Pile T → List (Call T) → List (Event T)
+  run pile [] = []
+  run pile (call.Put frame ∷ calls) =
+      Put frame (put_answer (pair.waiting pile.below)) ∷ run (pile_put (held (pair.waiting pile.below)) pile frame) calls
+  run pile (call.Poll ∷ calls) =
+      Polled (pile_says (held (pair.waiting pile.below)) pile.mark pile.below)
+      ∷ run (pile_left (held (pair.waiting pile.below)) pile.mark pile) calls
 
-module _ {T C : Type 0} (waits : C → List (Frame T)) where
-  -- all that is known of a channel which says nothing of its puts, and of its polls that the oldest frame arrives
-  abbrev PutOf : C → Frame T → C → Type 0
-  PutOf before frame after = Puts waits (λ _ _ _. Unit {0}) before frame after
-
-  abbrev PollOf : C → Poll T → C → Type 0
-  PollOf before answer after = Polls waits (λ from heard _. heard ≡ arrival (waits from)) before answer after
+  -- a row of events on such a pile is what it gives for their calls
+  listed_run : (before after : Pile T) (events : List (Event T)) → Row (as_rain pair) before events after → events ≡ run before (map call_of events)
+  listed_run before after [] row = refl
+  listed_run before after (Put frame answer ∷ events) (next, stepped, row) =
+      let left = pile_puts (held (pair.waiting before.below)) before next frame refl stepped.1.1 in
+      λ i. Put frame (stepped.0 i) ∷ (listed_run next after events row ∙ ap (λ pile. run pile (map call_of events)) left) i
+  listed_run before after (Polled answer ∷ events) (next, stepped, row) =
+      let left = pile_polls (held (pair.waiting before.below)) before.mark before next answer stepped.2 in
+      λ i. Polled (left.0 i) ∷ (listed_run next after events row ∙ ap (λ pile. run pile (map call_of events)) left.1) i
 
 module _ {T N F : Type 0} (near_waits : N → List (Frame T)) (far_waits : F → List (Frame T)) where
-  -- what the hop says of its poll, where these frames wait in far
-  abbrev HopPoll : List (Frame T) → Hop N F → Poll T → Hop N F → Type 0
-  HopPoll far before answer after = HopPolls (PollOf near_waits) (PutOf far_waits) (PollOf far_waits) (held far) before answer after
+  abbrev near : Ghosts N T
+  near = single near_waits
 
-  -- what a put leaves in far and near
-  hop_put : (holding : Bool) (before after : Hop N F) (frame : Frame T) (far near : List (Frame T))
-      → far_waits before.far ≡ far → near_waits before.near ≡ near → HopPuts (PutOf near_waits) holding before frame after
-      → (far_waits after.far ≡ far) × (near_waits after.near ≡ near_put holding near frame)
-  hop_put true before after frame far near is_far is_near own =
-      (ap (λ (h : Hop N F). far_waits h.far) own ∙ is_far, ap (λ (h : Hop N F). near_waits h.near) own ∙ is_near)
-  hop_put false before after frame far near is_far is_near own =
-      (ap far_waits own.1 ∙ is_far, own.0.0 ∙ ap (λ w. put_leaves w frame) is_near)
+  abbrev far : Ghosts F T
+  far = single far_waits
 
-  -- what comes of the oldest frame in near, where far has none
-  hop_moved : (far far' : F) (answer : Poll T) (near : List (Frame T)) → far_waits far ≡ [] → Moved (PutOf far_waits) (arrival near) far answer far'
-      → (answer ≡ hop_says [] near) × (far_waits far' ≡ far_left [] near)
-  hop_moved far far' answer [] is_far shift = (shift.0, ap far_waits shift.1 ∙ is_far)
-  hop_moved far far' answer (frame ∷ frames) is_far shift = (shift.0, shift.1.0 ∙ ap (λ w. put_leaves w frame) is_far)
+  -- the frames that wait in a hop, and in a rain over it
+  abbrev pub pair_of : HopState N F → Pair T
+  pair_of hop = record { near = near_waits hop.near; far = far_waits hop.far }
 
-  -- what is left of a channel whose oldest frame arrived
-  poll_leaves-arrival : (near : List (Frame T)) → poll_leaves near (arrival near) ≡ rest near
-  poll_leaves-arrival [] = refl
-  poll_leaves-arrival (frame ∷ frames) = refl
+  abbrev pub pile_of : RainState (HopState N F) → Pile T
+  pile_of rain = record { below = pair_of rain.below; mark = rain.mark; ahead = rain.ahead }
 
-  -- what a hop answers, and what it leaves in far and near
-  hop_poll : (before after : Hop N F) (answer : Poll T) (far near : List (Frame T)) → far_waits before.far ≡ far → near_waits before.near ≡ near → HopPoll far before answer after
-      → (answer ≡ hop_says far near) × (far_waits after.far ≡ far_left far near) × (near_waits after.near ≡ near_left far near)
-  hop_poll before after answer (oldest ∷ others) near is_far is_near own =
-      let arrived = own.0.2 ∙ ap arrival is_far in
-      (arrived, own.0.1 ∙ (λ i. poll_leaves (is_far i) (arrived i)), ap near_waits own.1 ∙ is_near)
-  hop_poll before after answer [] near is_far is_near own =
-      let heard = own.1.2 ∙ ap arrival is_near in
-      let shift = hop_moved before.far after.far answer near is_far (subst (λ (a : Poll T). Moved (PutOf far_waits) a before.far answer after.far) heard own.2) in
-      (shift.0, shift.1, own.1.1 ∙ (λ i. poll_leaves (is_near i) (heard i)) ∙ poll_leaves-arrival near)
+  pair_puts : (holding : Bool) (before after : HopState N F) (frame : Frame T) → HopPuts near far holding before frame after → HopPuts listed listed holding (pair_of before) frame (pair_of after)
+  pair_puts true before after frame own = ap pair_of own
+  pair_puts false before after frame own = (own.0, ap far_waits own.1)
 
-  -- what waits in the hop, and all that is known of it
-  abbrev waits : Hop N F → List (Frame T)
-  waits = hop_waits near_waits far_waits
+  pair_moved : (heard answer : Poll T) (before after : F) → Moved near far heard before answer after → Moved listed listed heard (far_waits before) answer (far_waits after)
+  pair_moved Empty answer before after own = (own.0, ap far_waits own.1)
+  pair_moved Still answer before after own = (own.0, ap far_waits own.1)
+  pair_moved (Arrived frame) answer before after own = own
+  pair_moved Lost answer before after own = (own.0, ap far_waits own.1)
 
-  abbrev PutBelow : Hop N F → Frame T → Hop N F → Type 0
-  PutBelow before frame after = Puts waits (λ from put to. HopPuts (PutOf near_waits) (held (waits from)) from put to) before frame after
+  pair_polls : (holding : Bool) (before after : HopState N F) (answer : Poll T) → HopPolls near far holding before answer after → HopPolls listed listed holding (pair_of before) answer (pair_of after)
+  pair_polls true before after answer own = (own.0, ap near_waits own.1)
+  pair_polls false before after answer (heard, polled, moved) = (heard, polled, pair_moved heard answer before.far after.far moved)
 
-  abbrev PollBelow : Hop N F → Poll T → Hop N F → Type 0
-  PollBelow before answer after = Polls waits (λ from heard to. HopPoll (far_waits from.far) from heard to) before answer after
+  rain_puts : (holding : Bool) (before after : RainState (HopState N F)) (frame : Frame T) → RainPuts (as_hop near far) holding before frame after → RainPuts pair holding (pile_of before) frame (pile_of after)
+  rain_puts true before after frame own = ((own.0.0, pair_puts _ before.below after.below frame own.0.1), ap pile_of own.1)
+  rain_puts false before after frame own = ((own.0.0, pair_puts _ before.below after.below frame own.0.1), ap pile_of own.1)
 
-  -- the parts of a rain's state
-  abbrev mark_of : RainState (Hop N F) → Mark
-  mark_of s = s.mark
+  rain_polls : (mark : Mark) (holding : Bool) (before after : RainState (HopState N F)) (answer : Poll T) → RainPolls (as_hop near far) mark holding before answer after → RainPolls pair mark holding (pile_of before) answer (pile_of after)
+  rain_polls Pass holding before after answer own = ((own.0.0, own.0.1, pair_polls _ before.below after.below answer own.0.2), ap pile_of own.1)
+  rain_polls Lose holding before after answer ((heard, polled, said), own) = ((heard, (polled.0, polled.1, pair_polls _ before.below after.below heard polled.2), said), ap pile_of own)
+  rain_polls Delay true before after answer own = (own.0, ap pile_of own.1)
+  rain_polls Delay false before after answer own = (own.0, ap pile_of own.1)
 
-  abbrev ahead_of : RainState (Hop N F) → List Mark
-  ahead_of s = s.ahead
+  pile_row : (before after : RainState (HopState N F)) (events : List (Event T)) → Row (as_rain (as_hop near far)) before events after → Row (as_rain pair) (pile_of before) events (pile_of after)
+  pile_row before after [] row = ap pile_of row
+  pile_row before after (Put frame answer ∷ events) (next, stepped, row) = (pile_of next, (stepped.0, (stepped.1.0, rain_puts _ before next frame stepped.1.1)), pile_row next after events row)
+  pile_row before after (Polled answer ∷ events) (next, stepped, row) = (pile_of next, (stepped.0, stepped.1, rain_polls before.mark _ before next answer stepped.2), pile_row next after events row)
 
-  abbrev far_of : RainState (Hop N F) → List (Frame T)
-  far_of s = far_waits s.below.far
-
-  abbrev near_of : RainState (Hop N F) → List (Frame T)
-  near_of s = near_waits s.below.near
-
-  -- a pile that has these plain values
-  abbrev pub Seen : Rain (Hop N F) → State T → Type 0
-  Seen pile state =
-      (pile.mark ≡ state.mark)
-      × (marks_of pile.ahead.now ≡ state.ahead)
-      × (far_waits pile.below.far ≡ state.far)
-      × (near_waits pile.below.near ≡ state.near)
-
-  -- the same of a put and of a poll, from all that is known of the hop
-  put_below : (holding : Bool) (before after : Hop N F) (frame : Frame T) (far near : List (Frame T)) → held (waits before) ≡ holding
-      → far_waits before.far ≡ far → near_waits before.near ≡ near → PutBelow before frame after
-      → (far_waits after.far ≡ far) × (near_waits after.near ≡ near_put holding near frame)
-  put_below holding before after frame far near is_held is_far is_near own =
-      hop_put holding before after frame far near is_far is_near (subst (λ (b : Bool). HopPuts (PutOf near_waits) b before frame after) is_held own.1)
-
-  poll_below : (before after : Hop N F) (answer : Poll T) (far near : List (Frame T)) → far_waits before.far ≡ far → near_waits before.near ≡ near → PollBelow before answer after
-      → (answer ≡ hop_says far near) × (far_waits after.far ≡ far_left far near) × (near_waits after.near ≡ near_left far near)
-  poll_below before after answer far near is_far is_near own =
-      hop_poll before after answer far near is_far is_near (subst (λ (w : List (Frame T)). HopPoll w before answer after) is_far own.2)
-
-  -- what a put leaves of the pile
-  pile_put : (holding : Bool) (before after : Rain (Hop N F)) (frame : Frame T) (state : State T) → held (waits before.below) ≡ holding
-      → Seen before state → RainPuts PutBelow holding (rain_state before) frame (rain_state after) → Seen after (put_in holding state frame)
-  pile_put true before after frame state is_held (is_mark, is_ahead, is_far, is_near) own =
-      let below = put_below true before.below after.below frame state.far state.near is_held is_far is_near own.0 in
-      (ap mark_of own.1 ∙ is_mark, ap ahead_of own.1 ∙ is_ahead, below.0, below.1)
-  pile_put false before after frame state is_held (is_mark, is_ahead, is_far, is_near) own =
-      let below = put_below false before.below after.below frame state.far state.near is_held is_far is_near own.0 in
-      (ap mark_of own.1 ∙ ap next_mark is_ahead, ap ahead_of own.1 ∙ ap later_marks is_ahead, below.0, below.1)
-
-  -- what the pile answers, and what it leaves
-  pile_poll : (holding : Bool) (before after : Rain (Hop N F)) (answer : Poll T) (mark : Mark) (state : State T)
-      → Seen before state → RainPolls PollBelow mark holding (rain_state before) answer (rain_state after) → state.mark ≡ mark
-      → (answer ≡ says holding mark state.far state.near) × Seen after (polled holding mark state.ahead state.far state.near)
-  pile_poll holding before after answer Pass state (is_mark, is_ahead, is_far, is_near) own same =
-      let below = poll_below before.below after.below answer state.far state.near is_far is_near own.0 in
-      (below.0, (ap mark_of own.1, ap ahead_of own.1 ∙ is_ahead, below.1, below.2))
-  pile_poll holding before after answer Lose state (is_mark, is_ahead, is_far, is_near) own same =
-      let below = poll_below before.below after.below own.0.0 state.far state.near is_far is_near own.0.1 in
-      (own.0.2 ∙ ap lossy below.0, (ap mark_of own.1, ap ahead_of own.1 ∙ is_ahead, below.1, below.2))
-  pile_poll true before after answer Delay state (is_mark, is_ahead, is_far, is_near) own same =
-      (own.0, (ap mark_of own.1, ap ahead_of own.1 ∙ is_ahead, ap far_of own.1 ∙ is_far, ap near_of own.1 ∙ is_near))
-  pile_poll false before after answer Delay state (is_mark, is_ahead, is_far, is_near) own same =
-      (own.0, (ap mark_of own.1 ∙ is_mark ∙ same, ap ahead_of own.1 ∙ is_ahead, ap far_of own.1 ∙ is_far, ap near_of own.1 ∙ is_near))
-
-  -- what the pile says of itself
-  abbrev pub PilePut : Rain (Hop N F) → Frame T → Rain (Hop N F) → Type 0
-  PilePut before frame after = RainPuts PutBelow (held (waits before.below)) (rain_state before) frame (rain_state after)
-
-  abbrev pub PilePoll : Rain (Hop N F) → Poll T → Rain (Hop N F) → Type 0
-  PilePoll before answer after = RainPolls PollBelow before.mark (held (waits before.below)) (rain_state before) answer (rain_state after)
-
-  -- a row of events on such a pile is what its plain values give
-  pub Row-run : (before after : Rain (Hop N F)) (events : List (Event T)) (state : State T) → Seen before state
-      → Row (rain_waits waits) PilePut PilePoll before events after → events ≡ run state (map call_of events)
-  Row-run before after [] state seen row = refl
-  Row-run before after (Put frame answer ∷ events) state seen (next, stepped, row) =
-      let all : waits before.below ≡ state.far ++ state.near = λ i. seen.2 i ++ seen.3 i in
-      let left = pile_put (holds state) before next frame state (ap held all) seen (subst (λ (w : List (Frame T)). RainPuts PutBelow (held w) (rain_state before) frame (rain_state next)) all stepped.1.1) in
-      λ i. Put frame ((stepped.0 ∙ ap put_answer all) i) ∷ Row-run next after events (put_in (holds state) state frame) left row i
-  Row-run before after (Polled answer ∷ events) state seen (next, stepped, row) =
-      let all : waits before.below ≡ state.far ++ state.near = λ i. seen.2 i ++ seen.3 i in
-      let own : RainPolls PollBelow state.mark (holds state) (rain_state before) answer (rain_state next) =
-      subst (λ (w : List (Frame T)). RainPolls PollBelow state.mark (held w) (rain_state before) answer (rain_state next)) all
-      (subst (λ (m : Mark). RainPolls PollBelow m (held (waits before.below)) (rain_state before) answer (rain_state next)) seen.0 stepped.2) in
-      let left = pile_poll (holds state) before next answer state.mark state seen own refl in
-      λ i. Polled (left.0 i) ∷ Row-run next after events (polled (holds state) state.mark state.ahead state.far state.near) left.1 row i
-
--- what was made, or another value where nothing was
-abbrev pub made_or : {X E : Type 0} → X → Result X E → X
-made_or other (Ok x) = x
-made_or other (Err e) = other
+  -- a row of events on a pile is what it gives for their calls
+  pub Row-run : (before after : RainState (HopState N F)) (events : List (Event T)) → Row (as_rain (as_hop near far)) before events after → events ≡ run (pile_of before) (map call_of events)
+  Row-run before after events row = listed_run (pile_of before) (pile_of after) events (pile_row before after events row)

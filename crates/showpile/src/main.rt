@@ -16,9 +16,7 @@ fn lost_once(frame: &Frame<Reading>) -> [Event<Reading>; 7]
 {
     let mut log = [Event::Poll(Poll::Empty); 7];
     let marks = [1];
-    let Ok(mut pile) = Rain::new(Hop::new(Wire::new(), Store::new()), &marks) else {
-        return log;
-    };
+    let mut pile = Rain::new(Hop::new(Wire::new(), Store::new()), &marks).unwrap();
     let put = Call::Put(*frame);
     let calls = [
         put,
@@ -33,7 +31,7 @@ fn lost_once(frame: &Frame<Reading>) -> [Event<Reading>; 7]
     log
 }
 
-fn show(rt: &HostRuntime) -> anyhow::Result<()> {
+fn main(rt: HostRuntime) -> anyhow::Result<()> {
     let frame = Frame {
         first: true,
         last: false,
@@ -44,8 +42,4 @@ fn show(rt: &HostRuntime) -> anyhow::Result<()> {
         rt.println(event_line(rt.alloc(), event)?)?;
     }
     Ok(())
-}
-
-fn main(rt: HostRuntime) -> anyhow::Result<()> {
-    show(&rt)
 }
