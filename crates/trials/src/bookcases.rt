@@ -21,10 +21,11 @@ const LENGTHS: [(usize, usize, usize); 10] = [
 #[test]
 fn a_book_ends_with_its_count_or_its_octets(rt: HostRuntime) -> Result<(), Fail> {
     for (count, given, length) in LENGTHS {
-        if given <= 12 {
-            let book = Book::<Reading>::read(rt.alloc(), count, &THREE_READINGS[0..given])?;
-            assert_eq!(rt; book.len(), length);
-        }
+        let Some(octets) = THREE_READINGS.get(..given) else {
+            panic!(rt; "there are no more octets");
+        };
+        let book = Book::<Reading>::read(rt.alloc(), count, octets)?;
+        assert_eq!(rt; book.len(), length);
     }
     Ok(())
 }

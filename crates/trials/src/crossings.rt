@@ -4,24 +4,24 @@ use loads::{Frame, Load};
 use std::fmt::Debug;
 use std::process::Abort;
 
-// The first frame of a message, with its toggle off.
-pub fn opening<T>(load: T) -> Frame<T> {
+// A load in a frame with these bits: first, last and toggle.
+fn framed<T>([first, last, toggle]: [bool; 3], load: T) -> Frame<T> {
     Frame {
-        first: true,
-        last: false,
-        toggle: false,
+        first,
+        last,
+        toggle,
         load,
     }
 }
 
+// The first frame of a message, with its toggle off.
+pub fn opening<T>(load: T) -> Frame<T> {
+    framed([true, false, false], load)
+}
+
 // The last frame of a message, with its toggle on.
 pub fn closing<T>(load: T) -> Frame<T> {
-    Frame {
-        first: false,
-        last: true,
-        toggle: true,
-        load,
-    }
+    framed([false, true, true], load)
 }
 
 // Whether a frame waits after an event, where the event tells: one that arrived or was lost may have others behind it.

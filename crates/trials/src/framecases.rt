@@ -1,7 +1,6 @@
 // Frames at their limits.
-use crate::answers::number_of;
 use crate::crossings::opening;
-use loads::{EmptyLoad, Frame, Load, Piece, Reading, frame_comes_back};
+use loads::{EmptyLoad, Frame, Load, Piece, Reading, answer_number as number_of, frame_comes_back};
 use std::test::Fail;
 
 #[test]
@@ -62,37 +61,37 @@ fn each_bit_has_its_place(rt: HostRuntime) {
 fn a_frame_needs_its_room(rt: HostRuntime) {
     let frame = opening(Reading { value: 7 });
     let mut short = [0xEE; 4];
-    assert_eq!(rt; number_of(frame.write(&mut short)), 14);
+    assert_eq!(rt; number_of(&frame.write(&mut short)), 14);
     assert_eq!(rt; short, [0xEE; 4]);
     let mut none = [];
-    assert_eq!(rt; number_of(frame.write(&mut none)), 14);
+    assert_eq!(rt; number_of(&frame.write(&mut none)), 14);
     let mut long = [0xEE; 6];
-    assert_eq!(rt; number_of(frame.write(&mut long)), 0);
+    assert_eq!(rt; number_of(&frame.write(&mut long)), 0);
     assert_eq!(rt; long, [0x81, 0, 0, 0, 7, 0xEE]);
 }
 
 #[test]
 fn a_frame_is_read_at_its_length(rt: HostRuntime) {
-    assert_eq!(rt; number_of(Frame::<Reading>::read(&[])), 14);
-    assert_eq!(rt; number_of(Frame::<Reading>::read(&[0x81, 0, 0, 0])), 14);
-    assert_eq!(rt; number_of(Frame::<Reading>::read(&[0x81, 0, 0, 0, 7])), 0);
+    assert_eq!(rt; number_of(&Frame::<Reading>::read(&[])), 14);
+    assert_eq!(rt; number_of(&Frame::<Reading>::read(&[0x81, 0, 0, 0])), 14);
+    assert_eq!(rt; number_of(&Frame::<Reading>::read(&[0x81, 0, 0, 0, 7])), 0);
     assert_eq!(rt;
-        number_of(Frame::<Reading>::read(&[0x81, 0, 0, 0, 7, 0])),
+        number_of(&Frame::<Reading>::read(&[0x81, 0, 0, 0, 7, 0])),
         14
     );
-    assert_eq!(rt; number_of(Frame::<EmptyLoad>::read(&[0x60, 0])), 14);
-    assert_eq!(rt; number_of(Frame::<Piece>::read(&[0x82, 21])), 14);
+    assert_eq!(rt; number_of(&Frame::<EmptyLoad>::read(&[0x60, 0])), 14);
+    assert_eq!(rt; number_of(&Frame::<Piece>::read(&[0x82, 21])), 14);
 }
 
 // The right number of octets, and another kind than is read.
 #[test]
 fn a_frame_is_read_at_its_kind(rt: HostRuntime) {
-    assert_eq!(rt; number_of(Frame::<Reading>::read(&[0x82, 0, 0, 0, 7])), 15);
-    assert_eq!(rt; number_of(Frame::<Reading>::read(&[0x80, 0, 0, 0, 7])), 15);
-    assert_eq!(rt; number_of(Frame::<Reading>::read(&[0x9F, 0, 0, 0, 7])), 15);
-    assert_eq!(rt; number_of(Frame::<EmptyLoad>::read(&[0x61])), 15);
-    assert_eq!(rt; number_of(Frame::<Piece>::read(&[0x81; 20])), 15);
-    assert_eq!(rt; number_of(Frame::<Piece>::read(&[0x62; 20])), 16);
+    assert_eq!(rt; number_of(&Frame::<Reading>::read(&[0x82, 0, 0, 0, 7])), 15);
+    assert_eq!(rt; number_of(&Frame::<Reading>::read(&[0x80, 0, 0, 0, 7])), 15);
+    assert_eq!(rt; number_of(&Frame::<Reading>::read(&[0x9F, 0, 0, 0, 7])), 15);
+    assert_eq!(rt; number_of(&Frame::<EmptyLoad>::read(&[0x61])), 15);
+    assert_eq!(rt; number_of(&Frame::<Piece>::read(&[0x81; 20])), 15);
+    assert_eq!(rt; number_of(&Frame::<Piece>::read(&[0x62; 20])), 16);
 }
 
 #[test]
@@ -102,7 +101,10 @@ fn frames_come_back(rt: HostRuntime) -> Result<(), Fail> {
     assert_eq!(rt; frame_comes_back(&reading, &mut buffer), Ok(reading));
     let piece = opening(Piece::new(20, 1, 2, 3, 4)?);
     assert_eq!(rt; frame_comes_back(&piece, &mut buffer), Ok(piece));
-    assert_eq!(rt; number_of(frame_comes_back(&piece, &mut buffer[0..19])), 14);
+    assert_eq!(rt;
+        number_of(&frame_comes_back(&piece, &mut buffer[0..19])),
+        14
+    );
     let empty = opening(EmptyLoad);
     assert_eq!(rt; frame_comes_back(&empty, &mut buffer[0..1]), Ok(empty));
     Ok(())

@@ -1,6 +1,4 @@
 // Channels that cannot be let go: whatever holds them has to hand them back.
-ghost use Rattle.channels.specs.Stores.{store_waits};
-
 use crate::crossings::{follow, opening};
 use channel::{Channel, Event, Full, Poll};
 use channels::{Hop, Rain, Store};
@@ -12,7 +10,7 @@ struct Kept {
 }
 
 impl Channel<EmptyLoad> for Kept {
-    ghost waiting = { λ kept. store_waits kept.store };
+    ghost waiting = { λ kept. kept.store };
 
     fn put(&mut self, frame: &Frame<EmptyLoad>) -> Result<(), Full> {
         self.store.put(frame)
@@ -44,13 +42,9 @@ fn near_of(hop: Hop<Kept, Kept>) -> Store<EmptyLoad> {
 #[test]
 fn a_rain_over_a_hop_hands_its_channels_back(rt: HostRuntime) {
     let frame = opening(EmptyLoad);
-    let mut store = match Rain::new(Hop::new(make_kept(), make_kept()), &[1]) {
-        Ok(mut rain) => {
-            follow(&rt, &mut rain, &[Event::Put(frame, Ok(()))]);
-            near_of(rain.into_below())
-        }
-        Err(refused) => near_of(refused.below),
-    };
+    let mut rain = Rain::new(Hop::new(make_kept(), make_kept()), &[1]).unwrap();
+    follow(&rt, &mut rain, &[Event::Put(frame, Ok(()))]);
+    let mut store = near_of(rain.into_below());
     follow(&rt, &mut store, &[Event::Poll(Poll::Arrived(frame))]);
 }
 
@@ -59,9 +53,7 @@ fn a_refused_rain_hands_its_channel_back(rt: HostRuntime) {
     let mut hop = Hop::new(make_kept(), make_kept());
     let frame = opening(EmptyLoad);
     follow(&rt, &mut hop, &[Event::Put(frame, Ok(()))]);
-    let mut store = match Rain::new(hop, &[3]) {
-        Ok(rain) => near_of(rain.into_below()),
-        Err(refused) => near_of(refused.below),
-    };
+    let refused = Rain::new(hop, &[3]).unwrap_err();
+    let mut store = near_of(refused.below);
     follow(&rt, &mut store, &[Event::Poll(Poll::Arrived(frame))]);
 }

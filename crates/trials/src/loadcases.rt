@@ -1,6 +1,7 @@
 // Loads at their limits.
-use crate::answers::number_of;
-use loads::{EmptyLoad, Fault, Load, Piece, Reading, load_comes_back};
+use loads::{
+    EmptyLoad, Fault, Load, Piece, Reading, Refusal, answer_number as number_of, load_comes_back,
+};
 use std::test::Fail;
 
 #[test]
@@ -47,7 +48,7 @@ const EDGES: [(u8, u32, u32, u8); 16] = [
 #[test]
 fn pieces_keep_to_the_map(rt: HostRuntime) {
     for (zoom, column, row, number) in EDGES {
-        assert_eq!(rt; number_of(Piece::new(zoom, column, row, 0, 0)), number);
+        assert_eq!(rt; number_of(&Piece::new(zoom, column, row, 0, 0)), number);
     }
 }
 
@@ -73,17 +74,17 @@ fn a_reading_is_four_octets(rt: HostRuntime) {
             value: 4_294_967_295,
         })
     );
-    assert_eq!(rt; number_of(Reading::read(&[1, 2, 3])), 14);
-    assert_eq!(rt; number_of(Reading::read(&[1, 2, 3, 4, 5])), 14);
+    assert_eq!(rt; number_of(&Reading::read(&[1, 2, 3])), 14);
+    assert_eq!(rt; number_of(&Reading::read(&[1, 2, 3, 4, 5])), 14);
 }
 
 #[test]
 fn a_reading_needs_four_octets_of_room(rt: HostRuntime) {
     let mut octets = [0xEE; 3];
-    assert_eq!(rt; number_of(Reading { value: 7 }.write(&mut octets)), 14);
+    assert_eq!(rt; number_of(&Reading { value: 7 }.write(&mut octets)), 14);
     assert_eq!(rt; octets, [0xEE; 3]);
     let mut octets = [0xEE; 4];
-    assert_eq!(rt; number_of(Reading { value: 7 }.write(&mut octets)), 0);
+    assert_eq!(rt; number_of(&Reading { value: 7 }.write(&mut octets)), 0);
     assert_eq!(rt; octets, [0, 0, 0, 7]);
 }
 
@@ -105,10 +106,10 @@ fn a_piece_is_nineteen_octets(rt: HostRuntime) -> Result<(), Fail> {
 fn a_piece_needs_nineteen_octets_of_room(rt: HostRuntime) -> Result<(), Fail> {
     let piece = Piece::new(1, 1, 0, 2, 3)?;
     let mut short = [0xEE; 18];
-    assert_eq!(rt; number_of(piece.write(&mut short)), 14);
+    assert_eq!(rt; number_of(&piece.write(&mut short)), 14);
     assert_eq!(rt; short, [0xEE; 18]);
     let mut long = [0xEE; 20];
-    assert_eq!(rt; number_of(piece.write(&mut long)), 0);
+    assert_eq!(rt; number_of(&piece.write(&mut long)), 0);
     assert_eq!(rt;
         long,
         [
@@ -127,11 +128,11 @@ fn a_piece_is_read_within_the_map(rt: HostRuntime) {
         let octets = [
             1, 0, 0, 0, column, 0, 0, 0, row, 0, 0, 0, 0, 0, 0, 0, 0, 0, 0,
         ];
-        assert_eq!(rt; number_of(Piece::read(&octets)), number);
+        assert_eq!(rt; number_of(&Piece::read(&octets)), number);
     }
-    assert_eq!(rt; number_of(Piece::read(&[20; 18])), 14);
-    assert_eq!(rt; number_of(Piece::read(&[21; 19])), 16);
-    assert_eq!(rt; number_of(Piece::read(&[21; 20])), 14);
+    assert_eq!(rt; number_of(&Piece::read(&[20; 18])), 14);
+    assert_eq!(rt; number_of(&Piece::read(&[21; 19])), 16);
+    assert_eq!(rt; number_of(&Piece::read(&[21; 20])), 14);
 }
 
 #[test]
@@ -140,7 +141,7 @@ fn an_empty_load_has_no_octets(rt: HostRuntime) {
     assert_eq!(rt; EmptyLoad.write(&mut octets), Ok(()));
     assert_eq!(rt; octets, [0xEE]);
     assert_eq!(rt; EmptyLoad::read(&[]), Ok(EmptyLoad));
-    assert_eq!(rt; number_of(EmptyLoad::read(&[0])), 14);
+    assert_eq!(rt; number_of(&EmptyLoad::read(&[0])), 14);
 }
 
 #[test]
@@ -150,7 +151,7 @@ fn loads_come_back(rt: HostRuntime) -> Result<(), Fail> {
     assert_eq!(rt; load_comes_back(&reading, &mut buffer), Ok(reading));
     let piece = Piece::new(20, 1, 2, 3, 4)?;
     assert_eq!(rt; load_comes_back(&piece, &mut buffer), Ok(piece));
-    assert_eq!(rt; number_of(load_comes_back(&piece, &mut buffer[0..18])), 14);
+    assert_eq!(rt; number_of(&load_comes_back(&piece, &mut buffer[0..18])), 14);
     assert_eq!(rt;
         load_comes_back(&EmptyLoad, &mut buffer[0..0]),
         Ok(EmptyLoad)

@@ -36,12 +36,8 @@ fn three_cross<T: Copy>(frame: Frame<T>) -> [Event<T>; 20] {
 
 // The inner rain has marks 2 and 1, the outer 1 and 0; the third frame has none left in the inner.
 fn cross<T: Load + Debug + PartialEq>(rt: &impl Abort, events: &[Event<T>]) {
-    let Ok(inner) = Rain::new(Hop::new(Wire::new(), Store::new()), &[2, 1]) else {
-        panic!(rt; "these are marks");
-    };
-    let Ok(mut pile) = Rain::new(Hop::new(inner, Store::new()), &[1, 0]) else {
-        panic!(rt; "these are marks");
-    };
+    let inner = Rain::new(Hop::new(Wire::new(), Store::new()), &[2, 1]).unwrap();
+    let mut pile = Rain::new(Hop::new(inner, Store::new()), &[1, 0]).unwrap();
     follow(rt, &mut pile, events);
 }
 

@@ -2,14 +2,12 @@
 use crate::crossings::{follow, opening};
 use channel::{Channel, Event, Full, Poll};
 use channels::{Hop, Rain, Store};
-use loads::{EmptyLoad, Reading};
+use loads::{EmptyLoad, Reading, answer_number};
 
 #[test]
 fn marks_are_taken_in_order_and_pass_after_the_last(rt: HostRuntime) {
     let frame = opening(Reading { value: 7 });
-    let Ok(mut rain) = Rain::new(Store::new(), &[1, 2, 0, 1]) else {
-        panic!(rt; "these are marks");
-    };
+    let mut rain = Rain::new(Store::new(), &[1, 2, 0, 1]).unwrap();
     follow(
         &rt,
         &mut rain,
@@ -37,9 +35,7 @@ fn marks_are_taken_in_order_and_pass_after_the_last(rt: HostRuntime) {
 #[test]
 fn a_delay_does_not_poll_below(rt: HostRuntime) {
     let frame = opening(EmptyLoad);
-    let Ok(mut rain) = Rain::new(Hop::new(Store::new(), Store::new()), &[2]) else {
-        panic!(rt; "these are marks");
-    };
+    let mut rain = Rain::new(Hop::new(Store::new(), Store::new()), &[2]).unwrap();
     follow(
         &rt,
         &mut rain,
@@ -55,9 +51,7 @@ fn a_frame_that_was_below_before_has_no_mark(rt: HostRuntime) {
     let frame = opening(Reading { value: 7 });
     let mut store = Store::new();
     assert_eq!(rt; store.put(&frame), Ok(()));
-    let Ok(mut rain) = Rain::new(store, &[1]) else {
-        panic!(rt; "these are marks");
-    };
+    let mut rain = Rain::new(store, &[1]).unwrap();
     follow(
         &rt,
         &mut rain,
@@ -75,9 +69,7 @@ fn the_sixty_fourth_mark_is_the_last(rt: HostRuntime) {
     let frame = opening(EmptyLoad);
     let mut marks = [0; 64];
     marks[63] = 1;
-    let Ok(mut rain) = Rain::new(Store::new(), &marks) else {
-        panic!(rt; "these are marks");
-    };
+    let mut rain = Rain::new(Store::new(), &marks).unwrap();
     for _ in 0..63 {
         follow(
             &rt,
@@ -97,12 +89,9 @@ fn the_sixty_fourth_mark_is_the_last(rt: HostRuntime) {
     );
 }
 
-// The number that turns marks down, or 0.
+// The number of the answer to making a rain with these marks.
 fn number_of_marks(marks: &[u8]) -> u8 {
-    match Rain::new(Store::<EmptyLoad>::new(), marks) {
-        Ok(_) => 0,
-        Err(refused) => refused.number(),
-    }
+    answer_number(&Rain::new(Store::<EmptyLoad>::new(), marks))
 }
 
 #[test]
@@ -121,9 +110,7 @@ fn a_refused_channel_comes_back_as_it_was(rt: HostRuntime) {
     let frame = opening(Reading { value: 7 });
     let mut store = Store::new();
     assert_eq!(rt; store.put(&frame), Ok(()));
-    let Err(refused) = Rain::new(store, &[0; 65]) else {
-        panic!(rt; "these are too many marks");
-    };
+    let refused = Rain::new(store, &[0; 65]).unwrap_err();
     let mut store = refused.below;
     follow(&rt, &mut store, &[Event::Poll(Poll::Arrived(frame))]);
 }

@@ -1,7 +1,7 @@
 // The text of frames and of what became of them.
 use crate::crossings::opening;
 use channel::{Event, Full, Poll};
-use frametext::{event_line, frame_line, frame_lines, hexadecimal};
+use frametext::{AnyFrame, event_line, frame_line, frame_lines, hexadecimal};
 use loads::{EmptyLoad, Frame, Reading};
 use std::test::Fail;
 
@@ -30,6 +30,17 @@ fn lines_say_what_octets_spell(rt: HostRuntime) -> Result<(), Fail> {
     assert_eq!(rt;
         line.as_str(),
         "input A1FFFFFFFF: first on, last off, toggle on, reading 4294967295"
+    );
+    Ok(())
+}
+
+#[test]
+fn a_frame_has_its_text(rt: HostRuntime) -> Result<(), Fail> {
+    let frame = AnyFrame::read(&[0xC1, 0, 0, 4, 0xD2])?;
+    let text = format!(in rt.alloc(); "{frame}")?;
+    assert_eq!(rt;
+        text.as_str(),
+        "first on, last on, toggle off, reading 1234"
     );
     Ok(())
 }
