@@ -1,15 +1,10 @@
 -- A channel with room for one frame, which neither delays nor loses it.
-use Rattle.std.specs.Prelude.{List, [], ◌∷◌, Some, None, Option}
+use Rattle.std.specs.Prelude.{List, [], ◌∷◌}
 use Rattle.loads.specs.declared.frames.Frame.{Frame}
 use Rattle.channel.specs.declared.polls.Poll.{Poll}
 use Rattle.channel.specs.declared.polls.Poll.TheVariants.{Empty, Arrived}
 
 module _ {T : Type 0} where
-  -- the frame that is kept, if there is one, waits
-  abbrev pub only : Option (Frame T) → List (Frame T)
-  only None = []
-  only (Some frame) = frame ∷ []
-
   -- its poll: the oldest frame arrives, if one waits
   abbrev pub arrival : List (Frame T) → Poll T
   arrival [] = Empty

@@ -1,11 +1,10 @@
 -- What waits in a wire, by its load kind.
-use Rattle.std.specs.Prelude.{ℕ, ◌+◌, List, take, Some, None, Option}
+use Rattle.std.specs.Prelude.{ℕ, ◌+◌, List, take, Some, None, Option, option_to_list}
 use Rattle.std.specs.Result.{result_ok}
 use Rattle.loads.specs.declared.frames.Frame.{Frame}
 use Rattle.loads.specs.declared.kinds.Load.{Ghosts}
 use Rattle.loads.specs.Frames.{frame_reads}
 use Rattle.channels.specs.declared.wires.Wire.{Wire}
-use Rattle.channels.specs.Singles.{only}
 
 module _ {T : Type 0} (kind : Ghosts T) where
   -- the frame that octets spell at their front, if they spell one
@@ -15,4 +14,4 @@ module _ {T : Type 0} (kind : Ghosts T) where
 
   -- the frame that a wire's octets spell
   abbrev pub wire_waits : Wire T → List (Frame T)
-  wire_waits wire = only (spelt wire.octets)
+  wire_waits wire = option_to_list (spelt wire.octets)

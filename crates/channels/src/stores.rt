@@ -1,7 +1,7 @@
 // The store: a channel that keeps one frame and loses none.
-ghost use Rattle.std.specs.Prelude.{◌≡◌, List, []};
+ghost use Rattle.std.specs.Prelude.{◌≡◌, List, [], option_to_list};
 ghost use Rattle.loads.specs.declared.frames.Frame.{Frame};
-ghost use Rattle.channels.specs.Singles.{only, arrival};
+ghost use Rattle.channels.specs.Singles.{arrival};
 
 use channel::{Channel, Full, Poll};
 use loads::Frame;
@@ -17,7 +17,7 @@ pub struct Store<T> {
 impl<T> Model for Store<T> {
     ghost Value = { List (Frame T) };
 
-    ghost view = { λ store. only store.frame };
+    ghost view = { λ store. option_to_list store.frame };
 }
 
 impl<T> Store<T> {

@@ -37,7 +37,7 @@ fn on_off(bit: bool) -> &'static str
     if bit { "on" } else { "off" }
 }
 
-// The three bits of a frame, as text.
+// The three bits of a frame, as text. Open: whether all of it can be written.
 #[derive(Clone, Copy)]
 struct Bits<'a, T>(&'a Frame<T>);
 
@@ -52,7 +52,7 @@ impl<'a, T> fmt::Display for Bits<'a, T> {
     }
 }
 
-// The bits and the load of a frame.
+// The bits and the load of a frame. Open: whether all of it can be written.
 impl fmt::Display for AnyFrame {
     ghost output = { λ frame. Some (frame_text frame) };
 

@@ -32,7 +32,7 @@ impl Refusal for Fault {
     }
 }
 
-// By hand, since of a derived text no contract says what it is.
+// By hand, since of a derived text no contract says what it is. Open: whether all of it can be written.
 impl fmt::Display for Fault {
     ghost output = { λ fault. Some (fault_text fault) };
 
