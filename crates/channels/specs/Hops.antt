@@ -5,6 +5,7 @@ use Rattle.channel.specs.declared.polls.Poll.{Poll}
 use Rattle.channel.specs.declared.polls.Poll.TheVariants.{Empty, Still, Arrived, Lost}
 use Rattle.channel.specs.declared.rules.Channel.{Ghosts}
 use Rattle.channel.specs.Channels.{Puts, Polls}
+use Rattle.channel.specs.Rules.{held}
 
 -- a hop as plain values: its two channels
 pub record HopState (N F : Type 0) : Type 0 where
@@ -34,3 +35,11 @@ module _ {T N F : Type 0} (near : Ghosts N T) (far : Ghosts F T) where
   HopPolls true before answer after = Polls far before.far answer after.far × (after.near ≡ before.near)
   HopPolls false before answer after =
       (heard : Poll T) × Polls near before.near heard after.near × Moved heard before.far answer after.far
+
+  -- all that a hop says of itself
+  abbrev pub hops : Ghosts (HopState N F) T
+  hops = record {
+    waiting = hop_waits;
+    puts = λ before frame after. HopPuts (held (hop_waits before)) before frame after;
+    polls = λ before answer after. HopPolls (held (far.waiting before.far)) before answer after;
+  }

@@ -5,6 +5,7 @@ use Rattle.channel.specs.declared.polls.Poll.{Poll}
 use Rattle.channel.specs.declared.polls.Poll.TheVariants.{Empty, Still, Arrived, Lost}
 use Rattle.channel.specs.declared.rules.Channel.{Ghosts}
 use Rattle.channel.specs.Channels.{Puts, Polls}
+use Rattle.channel.specs.Rules.{held}
 use Rattle.channels.specs.declared.marks.Mark.{Mark}
 use Rattle.channels.specs.declared.marks.Mark.TheVariants.{Pass, Lose, Delay}
 use Rattle.channels.specs.declared.rains.BadMarks.{BadMarks}
@@ -53,3 +54,11 @@ module _ {T C : Type 0} (below : Ghosts C T) where
   RainPolls Delay true before answer after =
       (answer ≡ Still) × (after ≡ record { below = before.below; mark = Pass; ahead = before.ahead })
   RainPolls Delay false before answer after = (answer ≡ Empty) × (after ≡ before)
+
+  -- all that a rain says of itself
+  abbrev pub rains : Ghosts (RainState C) T
+  rains = record {
+    waiting = λ rain. below.waiting rain.below;
+    puts = λ before frame after. RainPuts (held (below.waiting before.below)) before frame after;
+    polls = λ before answer after. RainPolls before.mark (held (below.waiting before.below)) before answer after;
+  }

@@ -4,7 +4,9 @@ use Rattle.std.specs.Result.{result_ok}
 use Rattle.loads.specs.declared.frames.Frame.{Frame}
 use Rattle.loads.specs.declared.kinds.Load.{Ghosts}
 use Rattle.loads.specs.Frames.{frame_reads}
+use Rattle.channel.specs.declared.rules.Channel as channel
 use Rattle.channels.specs.declared.wires.Wire.{Wire}
+use Rattle.channels.specs.Singles.{singles}
 
 module _ {T : Type 0} (kind : Ghosts T) where
   -- the frame that octets spell at their front, if they spell one
@@ -15,3 +17,7 @@ module _ {T : Type 0} (kind : Ghosts T) where
   -- the frame that a wire's octets spell
   abbrev pub wire_waits : Wire T → List (Frame T)
   wire_waits wire = option_to_list (spelt wire.octets)
+
+  -- all that a wire says of itself
+  abbrev pub wires : channel.Ghosts (Wire T) T
+  wires = singles wire_waits

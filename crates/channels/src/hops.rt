@@ -1,7 +1,6 @@
 // The hop: two channels in a row.
 ghost use Rattle.std.specs.Prelude.{◌≡◌};
-ghost use Rattle.channels.specs.Hops.{HopState, hop_waits, HopPuts, HopPolls};
-ghost use Rattle.channel.specs.Rules.{held};
+ghost use Rattle.channels.specs.Hops.{HopState, hops};
 
 use channel::{Channel, Full, Poll};
 use loads::Frame;
@@ -39,11 +38,11 @@ impl<N, F> Hop<N, F> {
 }
 
 impl<T: Copy, N: Channel<T>, F: Channel<T>> Channel<T> for Hop<N, F> {
-    ghost waiting = { hop_waits N.Channel F.Channel };
+    ghost waiting = { (hops N.Channel F.Channel).waiting };
 
-    ghost puts = { λ before frame after. HopPuts N.Channel F.Channel (held (hop_waits N.Channel F.Channel before)) before frame after };
+    ghost puts = { (hops N.Channel F.Channel).puts };
 
-    ghost polls = { λ before answer after. HopPolls N.Channel F.Channel (held (F.waiting before.far)) before answer after };
+    ghost polls = { (hops N.Channel F.Channel).polls };
 
     #[tactic(auto, using(crate::proofs::HopLaws::far_none))]
     fn put(&mut self, frame: &Frame<T>) -> Result<(), Full> {

@@ -1,9 +1,8 @@
 // The rain: a layer over any channel that loses and delays frames by given marks.
 ghost use Rattle.std.specs.Prelude.{◌≡◌};
 ghost use Rattle.std.proofs.Common.{rules};
-ghost use Rattle.channel.specs.Rules.{held};
 ghost use Rattle.channels.specs.Marks.{bad_marks_number};
-ghost use Rattle.channels.specs.Rains.{RainState, rain_of, lossy as lossy_answer, RainPuts, RainPolls};
+ghost use Rattle.channels.specs.Rains.{RainState, rain_of, lossy as lossy_answer, rains};
 
 use crate::marks::{Mark, Marks};
 use channel::{Channel, Full, Poll};
@@ -81,11 +80,11 @@ fn lossy<T: Copy>(answer: Poll<T>) -> Poll<T>
 }
 
 impl<'m, T: Copy, C: Channel<T>> Channel<T> for Rain<'m, C> {
-    ghost waiting = { λ rain. C.waiting rain.below };
+    ghost waiting = { (rains C.Channel).waiting };
 
-    ghost puts = { λ before frame after. RainPuts C.Channel (held (C.waiting before.below)) before frame after };
+    ghost puts = { (rains C.Channel).puts };
 
-    ghost polls = { λ before answer after. RainPolls C.Channel before.mark (held (C.waiting before.below)) before answer after };
+    ghost polls = { (rains C.Channel).polls };
 
     fn put(&mut self, frame: &Frame<T>) -> Result<(), Full> {
         self.below.put(frame)?;

@@ -1,7 +1,7 @@
 // The store: a channel that keeps one frame and loses none.
 ghost use Rattle.std.specs.Prelude.{◌≡◌, List, [], option_to_list};
 ghost use Rattle.loads.specs.declared.frames.Frame.{Frame};
-ghost use Rattle.channels.specs.Singles.{arrival};
+ghost use Rattle.channels.specs.Singles.{stores};
 
 use channel::{Channel, Full, Poll};
 use loads::Frame;
@@ -30,9 +30,9 @@ impl<T> Store<T> {
 }
 
 impl<T: Copy> Channel<T> for Store<T> {
-    ghost waiting = { λ frames. frames };
+    ghost waiting = { stores.waiting };
 
-    ghost polls = { λ before answer _. answer ≡ arrival before };
+    ghost polls = { stores.polls };
 
     fn put(&mut self, frame: &Frame<T>) -> Result<(), Full> {
         if self.holds() {

@@ -1,7 +1,6 @@
 // The wire: a channel that keeps one frame as octets and loses none.
 ghost use Rattle.std.specs.Prelude.{◌≡◌, []};
-ghost use Rattle.channels.specs.Singles.{arrival};
-ghost use Rattle.channels.specs.Wires.{spelt, wire_waits};
+ghost use Rattle.channels.specs.Wires.{spelt, wire_waits, wires};
 
 use channel::{Channel, Full, Poll};
 use loads::{Frame, LONGEST_FRAME, Load};
@@ -36,9 +35,9 @@ impl<T: Load> Wire<T> {
 }
 
 impl<T: Load> Channel<T> for Wire<T> {
-    ghost waiting = { wire_waits T.Load };
+    ghost waiting = { (wires T.Load).waiting };
 
-    ghost polls = { λ before answer _. answer ≡ arrival (wire_waits T.Load before) };
+    ghost polls = { (wires T.Load).polls };
 
     fn put(&mut self, frame: &Frame<T>) -> Result<(), Full> {
         if self.holds() {

@@ -1,1 +1,3 @@
-pub mod Piles
+pub mod PlainChannels
+pub mod PlainHops
+pub mod PlainRains
