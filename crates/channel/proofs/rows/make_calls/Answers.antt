@@ -8,7 +8,7 @@ pub loop-i-preserved : goal.loop-i-preserved
 loop-i-preserved g c =
     let more = take_more_set c.loop-i.log c.loop-i.i c.make.result (omega (arith, length-take c.min-count.result c.args.calls.now)) in
     record {
-      called = grind (arith, common_steps, map_push);
+      called = rw more (grind (arith, common_steps, map_push));
       later = grind (arith, common_steps);
       open_answers = rw more (search (rules, Row-push));
     }
