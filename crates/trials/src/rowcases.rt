@@ -1,13 +1,14 @@
 // Rows of calls, and how much of a row the log has room for.
 use crate::crossings::{closing, opening};
 use channel::{Call, Event, Full, Poll, make_calls};
-use channels::Store;
-use loads::Reading;
+use channels::{Store, Wire};
+use loads::{EmptyLoad, Piece};
+use std::test::Fail;
 
 #[test]
-fn calls_are_logged_with_their_answers(rt: HostRuntime) {
-    let one = opening(Reading { value: 1 });
-    let two = closing(Reading { value: 2 });
+fn calls_are_logged_with_their_answers(rt: HostRuntime) -> Result<(), Fail> {
+    let one = opening(Piece::new(0, 0, 0, 1, 1)?);
+    let two = closing(Piece::new(0, 0, 0, 2, 2)?);
     let calls = [
         Call::Poll,
         Call::Put(one),
@@ -16,7 +17,7 @@ fn calls_are_logged_with_their_answers(rt: HostRuntime) {
         Call::Poll,
     ];
     let mut log = [Event::Poll(Poll::Still); 6];
-    assert_eq!(rt; make_calls(&mut Store::new(), &calls, &mut log), 5);
+    assert_eq!(rt; make_calls(&mut Wire::new(), &calls, &mut log), 5);
     assert_eq!(rt;
         log,
         [
@@ -28,11 +29,12 @@ fn calls_are_logged_with_their_answers(rt: HostRuntime) {
             Event::Poll(Poll::Still),
         ]
     );
+    Ok(())
 }
 
 #[test]
 fn no_more_calls_are_made_than_the_log_has_room_for(rt: HostRuntime) {
-    let frame = opening(Reading { value: 1 });
+    let frame = opening(EmptyLoad);
     let calls = [Call::Put(frame), Call::Poll];
     let mut store = Store::new();
     let mut log = [Event::Poll(Poll::Still); 1];
