@@ -1,3 +1,0 @@
-pub mod PlainChannels
-pub mod PlainHops
-pub mod PlainRains
