@@ -9,5 +9,5 @@ mod rules;
 
 pub use polls::Poll;
 pub use refusals::Full;
-pub use rows::{Call, Event, make_calls};
+pub use rows::{Call, Event, make_calls, rows_conserve_frames};
 pub use rules::Channel;

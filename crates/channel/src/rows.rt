@@ -1,5 +1,6 @@
 // A row of puts and polls on any channel, logged, and what cannot happen to a frame in it.
-ghost use Rattle.std.specs.Prelude.{◌≡◌, min, map, length, take, drop};
+ghost use Rattle.std.specs.Prelude.{◌≡◌, min, List, [], ◌∷◌, ◌++◌, map, length, take, drop};
+ghost use Rattle.channel.specs.declared.rows.Event.{Event};
 ghost use Rattle.channel.specs.Rows.{call_of, Step, Row, Conserved};
 
 use crate::polls::Poll;
@@ -22,8 +23,8 @@ pub enum Event<T> {
 }
 
 impl<T: Copy> Call<T> {
-    // Makes the call.
-    fn make<C: Channel<T>>(&self, channel: &mut C) -> Event<T>
+    // Makes the call. Open: what a poll answers, by the rule.
+    pub fn make<C: Channel<T>>(&self, channel: &mut C) -> Event<T>
         ensures called { call_of result ≡ self.now }
         ensures open_answer { Step C.Channel channel.old result channel.new }
     {
@@ -54,3 +55,10 @@ pub fn make_calls<T: Copy, C: Channel<T>>(
     }
     count
 }
+
+// The law over rows, of any row: also of one whose next call depends on what was answered so far. A row is made longer by
+// one event at its end.
+pub fn rows_conserve_frames<T, C: Channel<T>>()
+    ensures longer { (before between after : C) (events : List (Event T)) (event : Event T) → Row C.Channel before events between → Step C.Channel between event after → Row C.Channel before (events ++ event ∷ []) after }
+    ensures conserved { (before after : C) (events : List (Event T)) → Row C.Channel before events after → Conserved (C.waiting before) events (C.waiting after) }
+{}

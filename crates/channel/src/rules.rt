@@ -8,7 +8,8 @@ use crate::polls::Poll;
 use crate::refusals::Full;
 use loads::Frame;
 
-// A channel for frames of one load kind. It stands for the list of frames that wait in it.
+// A channel for frames of one load kind. It stands for the list of frames that wait in it. The rule says nothing of loads,
+// so any type will do for them; an implementation asks for what it needs.
 pub trait Channel<T> {
     // the frames that wait, oldest first
     ghost waiting: { Self → List (Frame T) };
@@ -19,7 +20,7 @@ pub trait Channel<T> {
     // what an implementation says of its poll besides the rule: itself before, the answer, itself after
     ghost polls: { Self → Poll T → Self → Type 0 } = { λ _ _ _. Unit {0} };
 
-    // Gives the channel a frame, where none waits.
+    // Gives the channel a frame. It is turned down where one waits.
     fn put(&mut self, frame: &Frame<T>) -> Result<(), Full>
         ensures answer { result ≡ put_answer (waiting self.old) }
         ensures after { waiting self.new ≡ put_leaves (waiting self.old) frame.now }
