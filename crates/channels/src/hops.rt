@@ -32,8 +32,7 @@ impl<N, F> Hop<N, F> {
     pub fn into_parts(self) -> (N, F)
         ensures answer { result ≡ (self.near, self.far) }
     {
-        let Hop { near, far } = self;
-        (near, far)
+        (self.near, self.far)
     }
 }
 

@@ -2,7 +2,7 @@
 ghost use Rattle.std.specs.Prelude.{◌≡◌};
 ghost use Rattle.std.proofs.Common.{rules};
 ghost use Rattle.channels.specs.Marks.{bad_marks_number};
-ghost use Rattle.channels.specs.Rains.{RainState, rain_of, lossy as lossy_answer, rains};
+ghost use Rattle.channels.specs.Rains.{RainState, rain_of, lossy, rains};
 
 use crate::marks::{Mark, Marks};
 use channel::{Channel, Full, Poll};
@@ -60,18 +60,13 @@ impl<'m, C> Rain<'m, C> {
     pub fn into_below(self) -> C
         ensures answer { result ≡ self.entry.below }
     {
-        let Rain {
-            below,
-            mark: _,
-            ahead: _,
-        } = self;
-        below
+        self.below
     }
 }
 
 // An answer under the mark Lose: what arrives is lost.
 fn lossy<T: Copy>(answer: Poll<T>) -> Poll<T>
-    ensures answer { result ≡ lossy_answer answer }
+    ensures answer { result ≡ lossy answer }
 {
     match answer {
         Poll::Arrived(_) => Poll::Lost,
