@@ -1,5 +1,5 @@
 // What the cases on channels share: frames, and events that a channel is held against.
-use channel::{Channel, Event, Poll};
+use channel::{Call, Channel, Event, Poll};
 use loads::{Frame, Load};
 use std::fmt::Debug;
 use std::process::Abort;
@@ -41,11 +41,11 @@ pub fn follow<T: Load + Debug + PartialEq, C: Channel<T>>(
     events: &[Event<T>],
 ) {
     for event in events {
-        let answered = match event {
-            Event::Put(frame, _) => Event::Put(*frame, channel.put(frame)),
-            Event::Poll(_) => Event::Poll(channel.poll()),
+        let call = match event {
+            Event::Put(frame, _) => Call::Put(*frame),
+            Event::Poll(_) => Call::Poll,
         };
-        assert_eq!(rt; answered, *event);
+        assert_eq!(rt; call.make(channel), *event);
         if let Some(waits) = waits_after(event) {
             assert_eq!(rt; channel.holds(), waits);
         }

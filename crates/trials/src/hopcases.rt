@@ -1,8 +1,9 @@
 // The hop: near and far, empty and holding.
 use crate::crossings::{closing, follow, opening};
 use channel::{Channel, Event, Full, Poll};
-use channels::{Hop, Store, Wire};
-use loads::{EmptyLoad, Reading};
+use channels::{Hop, Rain, Store, Wire};
+use loads::{EmptyLoad, Piece, Reading};
+use std::test::Fail;
 
 #[test]
 fn a_frame_takes_a_poll_to_move_along_a_hop(rt: HostRuntime) {
@@ -42,6 +43,27 @@ fn a_hop_that_holds_two_frames_gives_the_far_one_first(rt: HostRuntime) {
             Event::Put(older, Ok(())),
         ],
     );
+}
+
+#[test]
+fn what_far_answers_is_passed_on(rt: HostRuntime) -> Result<(), Fail> {
+    let frame = opening(Piece::new(20, 1_048_575, 349_525, 3, 81_985_529_216_486_895)?);
+    let far = Rain::new(Store::new(), &[2, 1]).unwrap();
+    follow(
+        &rt,
+        &mut Hop::new(Wire::new(), far),
+        &[
+            Event::Put(frame, Ok(())),
+            Event::Poll(Poll::Still),
+            Event::Poll(Poll::Still),
+            Event::Poll(Poll::Arrived(frame)),
+            Event::Put(frame, Ok(())),
+            Event::Poll(Poll::Still),
+            Event::Poll(Poll::Lost),
+            Event::Poll(Poll::Empty),
+        ],
+    );
+    Ok(())
 }
 
 #[test]
