@@ -28,7 +28,8 @@ fn lost_once<T: Load>(
     ensures row { Row (rains (hops (wires T.Load) stores)) pile.old result pile.new }
     ensures answer { result ≡ lost_once frame.now }
 {
-    let mut log = [Event::Poll(Poll::Empty); 7];
+    // the last poll answers EMPTY, so an entry that no call wrote would show
+    let mut log = [Event::Poll(Poll::Still); 7];
     let put = Call::Put(*frame);
     let calls = [
         put,
