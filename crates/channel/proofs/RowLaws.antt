@@ -30,15 +30,15 @@ module _ {T : Type 0} where
 
 module _ {T C : Type 0} (channel : Ghosts C T) where
   -- one event more at the end of a row
-  pub Row-push : (before between after : C) (events : List (Event T)) (event : Event T)
+  pub row_longer : (before between after : C) (events : List (Event T)) (event : Event T)
       → Row channel before events between → Step channel between event after → Row channel before (events ++ event ∷ []) after
-  Row-push before between after [] event row step = (after, rw row at step, refl)
-  Row-push before between after (first ∷ events) event (next, stepped, row) step = (next, stepped, Row-push next between after events event row step)
+  row_longer before between after [] event row step = (after, rw row at step, refl)
+  row_longer before between after (first ∷ events) event (next, stepped, row) step = (next, stepped, row_longer next between after events event row step)
 
   -- the rule alone gives the law
-  pub Row-Conserved : (before after : C) (events : List (Event T)) → Row channel before events after → Conserved (channel.waiting before) events (channel.waiting after)
-  Row-Conserved before after [] row = ([], tt, cc (append-nil (channel.waiting before)))
-  Row-Conserved before after (Put frame answer ∷ events) (next, stepped, row) =
-      put_first _ _ _ _ _ _ stepped.0 stepped.1.0 (Row-Conserved next after events row)
-  Row-Conserved before after (Polled answer ∷ events) (next, stepped, row) =
-      poll_first _ _ _ _ _ stepped.0 stepped.1 (Row-Conserved next after events row)
+  pub row_conserves : (before after : C) (events : List (Event T)) → Row channel before events after → Conserved (channel.waiting before) events (channel.waiting after)
+  row_conserves before after [] row = ([], tt, cc (append-nil (channel.waiting before)))
+  row_conserves before after (Put frame answer ∷ events) (next, stepped, row) =
+      put_first _ _ _ _ _ _ stepped.0 stepped.1.0 (row_conserves next after events row)
+  row_conserves before after (Polled answer ∷ events) (next, stepped, row) =
+      poll_first _ _ _ _ _ stepped.0 stepped.1 (row_conserves next after events row)

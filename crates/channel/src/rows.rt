@@ -58,6 +58,7 @@ pub fn make_calls<T: Copy, C: Channel<T>>(
 
 // The law over rows, of any row: also of one whose next call depends on what was answered so far. A row is made longer by
 // one event at its end.
+#[tactic(auto, using(crate::proofs::RowLaws::row_longer, crate::proofs::RowLaws::row_conserves))]
 pub fn rows_conserve_frames<T, C: Channel<T>>()
     ensures longer { (before between after : C) (events : List (Event T)) (event : Event T) → Row C.Channel before events between → Step C.Channel between event after → Row C.Channel before (events ++ event ∷ []) after }
     ensures conserved { (before after : C) (events : List (Event T)) → Row C.Channel before events after → Conserved (C.waiting before) events (C.waiting after) }

@@ -1,7 +1,7 @@
 use Rattle.std.proofs.Common.{arith, length-take, rules}
 use Rattle.std.proofs.lemmas.Grind.{common_steps}
 use Rattle.std.proofs.lemmas.List.{map_push, take_more_set}
-use Rattle.channel.proofs.RowLaws.{Row-push, Row-Conserved}
+use Rattle.channel.proofs.RowLaws.{row_longer, row_conserves}
 use Rattle.channel.proofs.rows.make_calls.Goals as goal
 
 pub loop-i-preserved : goal.loop-i-preserved
@@ -10,8 +10,8 @@ loop-i-preserved g c =
     record {
       called = rw more (grind (arith, common_steps, map_push));
       later = grind (arith, common_steps);
-      open_answers = rw more (search (rules, Row-push));
+      open_answers = rw more (search (rules, row_longer));
     }
 
 pub returns-clause-conserved : goal.returns-clause-conserved
-returns-clause-conserved g c = search (rules, Row-Conserved)
+returns-clause-conserved g c = search (rules, row_conserves)
