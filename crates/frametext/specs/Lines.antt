@@ -1,7 +1,8 @@
 -- The printed line of a frame's octets.
 use Rattle.std.specs.Prelude.{ℕ, List, ◌++◌, Ok, Err, codes, Result, slice_set}
 use Rattle.loads.specs.declared.faults.Fault.{Fault}
-use Rattle.loads.specs.Faults.{fault_text}
+use Rattle.loads.specs.Faults.{number_of}
+use Rattle.loads.specs.Refusals.{refused_text}
 use Rattle.frametext.specs.declared.anyframes.AnyFrame.{AnyFrame}
 use Rattle.frametext.specs.AnyFrames.{any_reads, frame_text}
 use Rattle.frametext.specs.Hexadecimals.{hexadecimal}
@@ -9,7 +10,7 @@ use Rattle.frametext.specs.Hexadecimals.{hexadecimal}
 -- a frame's text, or the number that turns octets down
 abbrev pub answer_text : Result AnyFrame Fault → List ℕ
 answer_text (Ok frame) = frame_text frame
-answer_text (Err fault) = fault_text fault
+answer_text (Err fault) = refused_text (number_of fault)
 
 -- what octets spell, in words
 abbrev pub spelled_text : List ℕ → List ℕ

@@ -1,6 +1,7 @@
 // Why octets or a buffer are turned down, by fixed numbers.
 ghost use Rattle.std.specs.Prelude.{◌≡◌, Some};
-ghost use Rattle.loads.specs.Faults.{number_of, fault_text};
+ghost use Rattle.loads.specs.Faults.{number_of};
+ghost use Rattle.loads.specs.Refusals.{refused_text};
 ghost use Rattle.loads.specs.declared.faults.Fault.TheVariants.{NoMemory};
 ghost use Rattle.std.proofs.Common.{rules};
 
@@ -34,7 +35,7 @@ impl Refusal for Fault {
 
 // By hand, since of a derived text no contract says what it is. Open: whether all of it can be written.
 impl fmt::Display for Fault {
-    ghost output = { λ fault. Some (fault_text fault) };
+    ghost output = { λ fault. Some (refused_text (number_of fault)) };
 
     fn fmt<W: fmt::Write>(&self, f: &mut fmt::Formatter<W>) -> fmt::Result {
         let number = self.number();
