@@ -1,0 +1,44 @@
+-- The letters of the calls, and the words of what they answer.
+use Rattle.std.specs.Prelude.{ℕ, List, codes}
+use Rattle.std.specs.Str.{byte}
+use Rattle.link.specs.declared.calls.Call.{Call}
+use Rattle.link.specs.declared.calls.Call.TheVariants.{Request, Send, Carry, Tell, Reply, Return, Retry, Abandon, Confirm, Part, Break, Meet}
+use Rattle.link.specs.declared.words.Heard.{Heard}
+use Rattle.link.specs.declared.words.Heard.TheVariants.{Still, Arrived, Lost}
+use Rattle.link.specs.declared.words.Mark.{Mark}
+use Rattle.link.specs.declared.words.Mark.TheVariants as mark
+use Rattle.link.specs.declared.words.Word.{Word}
+use Rattle.link.specs.declared.words.Word.TheVariants as word
+
+-- the letter of a call
+abbrev pub letter : Call → ℕ
+letter (Request start count) = byte "Q"
+letter Send = byte "S"
+letter Carry = byte "C"
+letter Tell = byte "T"
+letter Reply = byte "R"
+letter Return = byte "B"
+letter Retry = byte "Y"
+letter Abandon = byte "A"
+letter Confirm = byte "F"
+letter Part = byte "P"
+letter Break = byte "N"
+letter Meet = byte "M"
+
+-- what became of a frame
+abbrev pub heard_word : Heard → List ℕ
+heard_word Still = codes "STILL"
+heard_word Arrived = codes "ARRIVED"
+heard_word Lost = codes "LOST"
+
+-- a load's place in its message
+abbrev pub mark_word : Mark → List ℕ
+mark_word mark.Ok = codes "OK"
+mark_word mark.First = codes "FIRST"
+mark_word mark.Incomplete = codes "INCOMPLETE"
+
+-- how a message ended
+abbrev pub word_word : Word → List ℕ
+word_word word.Ok = codes "OK"
+word_word word.NotOk = codes "NOT_OK"
+word_word word.DontKnow = codes "DONT_KNOW"
