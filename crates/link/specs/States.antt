@@ -1,0 +1,99 @@
+-- A link as plain values: its two ends, what it has told and confirmed, and the frames that wait in its two channels.
+use Rattle.std.specs.Prelude.{ℕ, Bool, true, false, List, [], Some, None, Option}
+use Rattle.loads.specs.declared.frames.Frame.{Frame}
+use Rattle.loads.specs.declared.empties.EmptyLoad.{EmptyLoad}
+use Rattle.channel.specs.declared.rules.Channel.{Ghosts}
+use Rattle.link.specs.declared.places.SenderPlace.{SenderPlace}
+use Rattle.link.specs.declared.places.SenderPlace.TheVariants.{ToSend}
+use Rattle.link.specs.declared.places.HutPlace.{HutPlace}
+use Rattle.link.specs.declared.places.HutPlace.TheVariants.{AwaitsFrame}
+use Rattle.link.specs.declared.words.Word.{Word}
+
+-- the sender: rest has the book places that are not yet replied to
+pub record SenderState : Type 0 where
+  pub place : SenderPlace
+  pub «open» : Bool
+  pub first : Bool
+  pub armed : Bool
+  pub lost : Bool
+  pub toggle : Bool
+  pub rest : List ℕ
+  pub tries : ℕ
+
+-- the hut's end
+pub record HutState (T : Type 0) : Type 0 where
+  pub place : HutPlace
+  pub fresh : Bool
+  pub strict : Bool
+  pub timer : Bool
+  pub quiet : Bool
+  pub expected : Bool
+  pub held : Option (Frame T)
+
+-- the link: channel K leads to the hut, and channel L back; repeats are absent where it is not joined
+pub record LinkState (T : Type 0) : Type 0 where
+  pub sender : SenderState
+  pub hut : HutState T
+  pub told : ℕ
+  pub word : Option Word
+  pub repeats : Option ℕ
+  pub to_hut : List (Frame T)
+  pub back : List (Frame EmptyLoad)
+
+-- a link with the channels themselves
+pub record LinkParts (T K L : Type 0) : Type 0 where
+  pub sender : SenderState
+  pub hut : HutState T
+  pub told : ℕ
+  pub word : Option Word
+  pub repeats : Option ℕ
+  pub to_hut : K
+  pub back : L
+
+-- a link by the frames that wait in its channels
+abbrev pub plain : {T K L : Type 0} → Ghosts K T → Ghosts L EmptyLoad → LinkParts T K L → LinkState T
+plain k l link = record {
+  sender = link.sender;
+  hut = link.hut;
+  told = link.told;
+  word = link.word;
+  repeats = link.repeats;
+  to_hut = k.waiting link.to_hut;
+  back = l.waiting link.back;
+}
+
+-- the ends at the start
+abbrev pub sender_start : SenderState
+sender_start = record {
+  place = ToSend;
+  «open» = false;
+  first = true;
+  armed = false;
+  lost = false;
+  toggle = false;
+  rest = [];
+  tries = 0;
+}
+
+abbrev pub hut_start : {T : Type 0} → HutState T
+hut_start = record {
+  place = AwaitsFrame;
+  fresh = true;
+  strict = false;
+  timer = false;
+  quiet = false;
+  expected = false;
+  held = None;
+}
+
+-- a link as it joined
+abbrev pub started : {T : Type 0} → ℕ → LinkState T
+started repeats = record {
+  sender = sender_start;
+  hut = hut_start;
+  told = 0;
+  word = None;
+  repeats = Some repeats;
+  to_hut = [];
+  back = [];
+}
