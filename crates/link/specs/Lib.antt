@@ -1,6 +1,12 @@
+pub mod Doings
+pub mod Histories
 pub mod Huts
 pub mod Refusals
+pub mod Rules
+pub mod Runs
 pub mod Senders
 pub mod States
 pub mod Timers
+pub mod Truths
+pub mod Turns
 pub mod Words

@@ -1,17 +1,25 @@
-// The link: its two ends, what its calls are, why they are turned down, and the timer question.
+// The link: a sender, a hut's end, and two channels between them.
 
 #![tactic(auto)]
 
 mod calls;
+mod events;
+mod histories;
 mod huts;
+mod links;
 mod places;
 mod refusals;
+mod runs;
 mod senders;
+mod steps;
 mod timers;
 mod words;
 
 pub use calls::Call;
+pub use events::{Answer, Event};
+pub use histories::histories_are_truthful;
 pub use huts::Hut;
+pub use links::Link;
 pub use places::{HutPlace, SenderPlace};
 pub use refusals::LinkRefusal;
 pub use senders::Sender;

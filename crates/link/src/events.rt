@@ -1,0 +1,24 @@
+// A call and what was answered.
+use crate::calls::Call;
+use crate::refusals::LinkRefusal;
+use crate::words::{Heard, Mark, Word};
+
+// What an accepted call answers.
+#[derive(Clone, Copy, Debug, PartialEq, Eq)]
+pub enum Answer<T> {
+    // Nothing but that it was accepted.
+    Done,
+    // What became of the frame that was polled for.
+    Polled(Heard),
+    // The load that the hut is told, with its mark.
+    Told(Mark, T),
+    // How the message ended.
+    Confirmed(Word),
+}
+
+// A call with its answer.
+#[derive(Clone, Copy, Debug, PartialEq, Eq)]
+pub struct Event<T> {
+    pub call: Call,
+    pub answer: Result<Answer<T>, LinkRefusal>,
+}
