@@ -1,0 +1,35 @@
+-- The printed lines of a link: of a call with its answer, and of an outcome.
+use Rattle.std.specs.Prelude.{ℕ, List, [], ◌∷◌, ◌++◌, Ok, Err, Result, codes, decimal}
+use Rattle.loads.specs.declared.kinds.Load.{Ghosts}
+use Rattle.loads.specs.Refusals.{answer_number}
+use Rattle.link.specs.declared.events.Answer.{Answer}
+use Rattle.link.specs.declared.events.Answer.TheVariants.{Done, Polled, Told, Confirmed}
+use Rattle.link.specs.declared.events.Event.{Event}
+use Rattle.link.specs.declared.refusals.LinkRefusal.{LinkRefusal}
+use Rattle.link.specs.declared.words.Word.{Word}
+use Rattle.link.specs.Refusals.{number_of}
+use Rattle.link.specs.Words.{letter, heard_word, mark_word, word_word}
+use Rattle.frametext.specs.Hexadecimals.{hexadecimal}
+
+-- by the load kind
+module _ {T : Type 0} (kind : Ghosts T) where
+  -- a load's octets
+  abbrev pub load_text : T → List ℕ
+  load_text load = hexadecimal (kind.spelled load)
+
+  -- what an accepted call shows: the answer of a poll, the mark and the load that the hut is told, or the word
+  abbrev pub shown_text : Result (Answer T) LinkRefusal → List ℕ
+  shown_text (Ok Done) = []
+  shown_text (Ok (Polled heard)) = codes " " ++ heard_word heard
+  shown_text (Ok (Told mark load)) = codes " " ++ (mark_word mark ++ (codes " " ++ load_text load))
+  shown_text (Ok (Confirmed word)) = codes " " ++ word_word word
+  shown_text (Err why) = []
+
+  -- the letter, the number of the answer, and what is shown
+  abbrev pub call_text : Event T → List ℕ
+  call_text event =
+      letter event.call ∷ (codes " " ++ (decimal (answer_number number_of event.answer) ++ shown_text event.answer))
+
+-- the word of a message, and how many of its loads were told
+abbrev pub outcome_text : Word → ℕ → List ℕ
+outcome_text word told = codes "outcome " ++ (word_word word ++ (codes " " ++ decimal told))

@@ -1,0 +1,7 @@
+// The printed lines of a link.
+
+#![tactic(auto)]
+
+mod lines;
+
+pub use lines::{call_line, outcome_line};
