@@ -13,6 +13,20 @@ mod hopcases;
 #[cfg(test)]
 mod keptcases;
 #[cfg(test)]
+mod linkends;
+#[cfg(test)]
+mod linkgoeson;
+#[cfg(test)]
+mod linkkinds;
+#[cfg(test)]
+mod linkrefusals;
+#[cfg(test)]
+mod linkruns;
+#[cfg(test)]
+mod linksteps;
+#[cfg(test)]
+mod linktexts;
+#[cfg(test)]
 mod loadcases;
 #[cfg(test)]
 mod pilecases;
@@ -24,3 +38,5 @@ mod rowcases;
 mod singlecases;
 #[cfg(test)]
 mod textcases;
+#[cfg(test)]
+mod timercases;
