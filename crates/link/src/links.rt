@@ -1,12 +1,12 @@
 // The link: a sender, a hut's end, and the channels between them.
 ghost use Rattle.std.specs.Prelude.{◌≡◌, ℕ, List, [], None, Ok, IsOk};
 ghost use Rattle.std.specs.Option.{ok_or};
-ghost use Rattle.link.specs.declared.words.Heard.{Heard};
 ghost use Rattle.link.specs.declared.refusals.LinkRefusal.TheVariants.{NotJoined};
 ghost use Rattle.loads.specs.declared.empties.EmptyLoad.{EmptyLoad};
 ghost use Rattle.link.specs.States.{LinkParts, plain, sender_start, hut_start};
 ghost use Rattle.channel.specs.Rows.{Row};
-ghost use Rattle.link.specs.Doings.{send_does, carry_does, reply_does, return_does};
+ghost use Rattle.link.specs.Doings.{send_does, reply_does};
+ghost use Rattle.link.specs.Polls.{Carried, Returned};
 ghost use Rattle.link.specs.Rules as rule;
 ghost use Rattle.link.specs.declared.events.Event.{Event};
 ghost use Rattle.link.specs.Histories.{Reached};
@@ -121,7 +121,7 @@ impl<T: Load, K: Channel<T>, L: Channel<EmptyLoad>> Link<T, K, L> {
 
     // Polls the channel to the hut. Open: what becomes of a frame that waits there.
     pub fn carry(&mut self) -> Result<Heard, LinkRefusal>
-        ensures open_answer { (heard : Heard) × (result ≡ (rule.carry heard (plain K.Channel L.Channel self.old)).0) × (plain K.Channel L.Channel self.new ≡ (rule.carry heard (plain K.Channel L.Channel self.old)).1) × Row K.Channel self.old.to_hut (carry_does heard (plain K.Channel L.Channel self.old)) self.new.to_hut × (self.new.back ≡ self.old.back) }
+        ensures open_answer { Carried K.Channel L.Channel self.old result self.new }
     {
         self.joined()?;
         match self.to_hut.poll() {
@@ -162,7 +162,7 @@ impl<T: Load, K: Channel<T>, L: Channel<EmptyLoad>> Link<T, K, L> {
 
     // Polls the channel back. Open: what becomes of a reply that waits there.
     pub fn return_reply(&mut self) -> Result<Heard, LinkRefusal>
-        ensures open_answer { (heard : Heard) × (result ≡ (rule.return heard (plain K.Channel L.Channel self.old)).0) × (plain K.Channel L.Channel self.new ≡ (rule.return heard (plain K.Channel L.Channel self.old)).1) × (self.new.to_hut ≡ self.old.to_hut) × Row L.Channel self.old.back (return_does heard (plain K.Channel L.Channel self.old)) self.new.back }
+        ensures open_answer { Returned K.Channel L.Channel self.old result self.new }
     {
         self.joined()?;
         match self.back.poll() {
