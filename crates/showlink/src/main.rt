@@ -2,10 +2,17 @@
 
 #![tactic(auto)]
 
+ghost use Rattle.std.specs.Prelude.{IfOk};
+ghost use Rattle.link.specs.States.{plain};
+ghost use Rattle.link.specs.Histories.{Reached};
+ghost use Rattle.link.specs.Truths.{Truthful};
+ghost use Rattle.link.specs.Turns.{turns};
+
+use channel::Channel;
 use channels::{Rain, Store, Wire};
-use link::{Answer, Call, Event, Link};
+use link::{Answer, Call, Event, Link, LinkRefusal, Word};
 use linktext::{call_line, outcome_line};
-use loads::{Book, Reading};
+use loads::{Book, EmptyLoad, Reading};
 
 // Readings 7, 8 and 9.
 const OCTETS: [u8; 12] = [0, 0, 0, 7, 0, 0, 0, 8, 0, 0, 0, 9];
@@ -41,18 +48,29 @@ const CALLS: [Call; 27] = [
     Call::Confirm,
 ];
 
+// Joins with 2 repeats and makes the calls. What comes is the history of the link, and the law holds of it.
+fn send_three<K: Channel<Reading>, L: Channel<EmptyLoad>>(
+    link: &mut Link<Reading, K, L>,
+    book: &Book<Reading>,
+) -> Result<[Event<Reading>; 27], LinkRefusal>
+    ensures law { IfOk result (λ log. Reached book.now 2 log (plain K.Channel L.Channel link.new) × Truthful book.now 2 (turns log)) }
+{
+    link.join(2)?;
+    // no call answers this, so an entry that no call wrote would show
+    let mut log = [Event {
+        call: Call::Meet,
+        answer: Ok(Answer::Confirmed(Word::Ok)),
+    }; 27];
+    link.run(book, &CALLS, &mut log)?;
+    Ok(log)
+}
+
 fn main(rt: HostRuntime) -> anyhow::Result<()> {
     let book = Book::<Reading>::read(rt.alloc(), 3, &OCTETS)?;
     let to_hut = Rain::new(Wire::new(), &[1]).unwrap();
     let back = Rain::new(Store::new(), &[0, 1]).unwrap();
     let mut link = Link::new(to_hut, back);
-    link.join(2)?;
-    let mut log = [Event {
-        call: Call::Meet,
-        answer: Ok(Answer::Done),
-    }; 27];
-    link.run(&book, &CALLS, &mut log)?;
-    for event in &log {
+    for event in &send_three(&mut link, &book)? {
         rt.println(call_line(rt.alloc(), event)?)?;
     }
     let (word, told) = link.outcome()?;
