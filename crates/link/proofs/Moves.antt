@@ -15,7 +15,7 @@ use Rattle.link.specs.declared.words.Heard.{Heard}
 use Rattle.link.specs.declared.words.Heard.TheVariants.{Still, Arrived, Lost}
 use Rattle.link.specs.declared.events.Event.{Event}
 use Rattle.link.specs.Histories.{choice, Step, Ran, Reached}
-use Rattle.link.specs.Rules.{Outcome, besides, by_sender, request, send, carry, tell, reply, return, retry, abandon, confirm, part, break, meet, shown, made, outcome}
+use Rattle.link.specs.Rules.{Answered, besides, by_sender, request, send, carry, tell, reply, return, retry, abandon, confirm, part, break, meet, shown, made, outcome}
 use Rattle.link.specs.Senders.{places, more}
 use Rattle.link.specs.States.{SenderState, LinkState, started}
 use Rattle.link.specs.Truths.{Truthful, outcome_of}
@@ -47,7 +47,7 @@ Kept other before after = (after.told ≡ before.told) × (outcome after ≡ out
 
 module _ {T : Type 0} (book : List T) (repeats : ℕ) (small : repeats ≤ 10) where
   -- an answered call is as it should be, and leads to a phase
-  abbrev Next : LinkState T → Watch T → Call → Outcome T (Answer T) → Type 0
+  abbrev Next : LinkState T → Watch T → Call → Answered T (Answer T) → Type 0
   Next before w call (answer, after) =
       Right repeats w (turn call answer) × Phase book repeats after (advance book w (turn call answer)) × Kept (turn call answer) before after
 

@@ -4,7 +4,7 @@ use Rattle.link.specs.declared.refusals.LinkRefusal.{LinkRefusal}
 use Rattle.link.specs.declared.refusals.LinkRefusal.TheVariants.{StillOpen}
 use Rattle.link.specs.declared.words.Word.{Word}
 use Rattle.link.specs.Turns.{Turn, asks, tells, replied, loses, gives_up, ends, other}
-use Rattle.link.specs.Truths.{part, tellings, said, outcome_by, outcome_or}
+use Rattle.link.specs.Truths.{message_turns, tellings, said, outcome_by, outcome_or}
 use Rattle.link.proofs.Watches.{Watch, advance, Rightly}
 
 -- a count of the loads told, and the outcome with it, kept turn by turn
@@ -28,7 +28,7 @@ counted true last = Err StillOpen
 counted false last = last
 
 abbrev pub so_far : {T : Type 0} → Bool → Result (Word × ℕ) LinkRefusal → ℕ → List (Turn T) → Result (Word × ℕ) LinkRefusal
-so_far true last told turns = outcome_by (said (part turns)) (told + length (tellings (part turns)))
+so_far true last told turns = outcome_by (said (message_turns turns)) (told + length (tellings (message_turns turns)))
 so_far false last told turns = last
 
 module _ {T : Type 0} (book : List T) (repeats : ℕ) where
@@ -40,10 +40,10 @@ module _ {T : Type 0} (book : List T) (repeats : ℕ) where
   tally_right true w last told (asks start count ∷ turns) busy (right, rightly) = cc
   tally_right false w last told (asks start count ∷ turns) busy (right, rightly) =
       tally_right true (advance book w (asks start count)) last 0 turns refl rightly
-      ∙ rw (zero-add (length (tellings (part turns)))) refl
+      ∙ rw (zero-add (length (tellings (message_turns turns)))) refl
   tally_right true w last told (tells mark load ∷ turns) busy (right, rightly) =
       tally_right true (advance book w (tells mark load)) last (told + 1) turns busy rightly
-      ∙ ap (λ last. outcome_or last turns) (one_told (said (part turns)) told (length (tellings (part turns))))
+      ∙ ap (λ last. outcome_or last turns) (one_told (said (message_turns turns)) told (length (tellings (message_turns turns))))
   tally_right false w last told (tells mark load ∷ turns) busy (right, rightly) =
       tally_right false (advance book w (tells mark load)) last (told + 1) turns busy rightly
   tally_right true w last told (replied ∷ turns) busy (right, rightly) = tally_right true (advance book w replied) last told turns busy rightly

@@ -5,7 +5,7 @@ use Rattle.link.specs.declared.words.Mark.{Mark}
 use Rattle.link.specs.declared.words.Word.{Word}
 use Rattle.link.specs.declared.words.Word.TheVariants as word
 use Rattle.link.specs.Turns.{Turn, asks, tells, replied, loses, gives_up, ends, other}
-use Rattle.link.specs.Truths.{marked, part, tellings, said, abandoned, losses, overrun, WordTrue, MessageTrue, Truthful}
+use Rattle.link.specs.Truths.{marked, message_turns, tellings, said, abandoned, losses, overrun, WordTrue, MessageTrue, Truthful}
 
 -- of the message that is open: what is still to be told, how many of its loads have no reply, the losses of the first of
 -- these, and whether it was abandoned
@@ -157,24 +157,24 @@ module _ {T : Type 0} where
 
 module _ {T : Type 0} (book : List T) (repeats : ℕ) where
   -- turns that are as they should be say what is true of the open message
-  rightly_said : (w : Watch T) (turns : List (Turn T)) → w.«open» ≡ true → Rightly book repeats w turns → Said repeats w (part turns)
+  rightly_said : (w : Watch T) (turns : List (Turn T)) → w.«open» ≡ true → Rightly book repeats w turns → Said repeats w (message_turns turns)
   rightly_said w [] busy rightly = (refl, tt)
   rightly_said w (asks start count ∷ turns) busy (right, rightly) = cc
   rightly_said w (tells mark load ∷ turns) busy (right, rightly) =
-      said_told repeats w mark load (part turns) right (rightly_said (advance book w (tells mark load)) turns busy rightly)
+      said_told repeats w mark load (message_turns turns) right (rightly_said (advance book w (tells mark load)) turns busy rightly)
   rightly_said w (replied ∷ turns) busy (right, rightly) =
-      said_replied repeats w (part turns) right.0 right.1 (rightly_said (advance book w replied) turns busy rightly)
-  rightly_said w (loses ∷ turns) busy (right, rightly) = said_loses repeats w (part turns) (rightly_said (advance book w loses) turns busy rightly)
-  rightly_said w (gives_up ∷ turns) busy (right, rightly) = said_gives repeats w (part turns) (rightly_said (advance book w gives_up) turns busy rightly)
+      said_replied repeats w (message_turns turns) right.0 right.1 (rightly_said (advance book w replied) turns busy rightly)
+  rightly_said w (loses ∷ turns) busy (right, rightly) = said_loses repeats w (message_turns turns) (rightly_said (advance book w loses) turns busy rightly)
+  rightly_said w (gives_up ∷ turns) busy (right, rightly) = said_gives repeats w (message_turns turns) (rightly_said (advance book w gives_up) turns busy rightly)
   rightly_said w (ends word ∷ turns) busy (right, rightly) = ended repeats w word (ends word ∷ []) refl right.1
-  rightly_said w (other ∷ turns) busy (right, rightly) = said_other repeats w (part turns) (rightly_said w turns busy rightly)
+  rightly_said w (other ∷ turns) busy (right, rightly) = said_other repeats w (message_turns turns) (rightly_said w turns busy rightly)
 
   -- and each message of theirs is true
   pub rightly_truthful : (w : Watch T) (turns : List (Turn T)) → Rightly book repeats w turns → Truthful book repeats turns
   rightly_truthful w [] rightly = tt
   rightly_truthful w (asks start count ∷ turns) (right, rightly) =
       let loads = take count (drop start book) in
-      (said_fresh repeats loads (part turns) (rightly_said (fresh loads) turns refl rightly), rightly_truthful (advance book w (asks start count)) turns rightly)
+      (said_fresh repeats loads (message_turns turns) (rightly_said (fresh loads) turns refl rightly), rightly_truthful (advance book w (asks start count)) turns rightly)
   rightly_truthful w (tells mark load ∷ turns) (right, rightly) = rightly_truthful (advance book w (tells mark load)) turns rightly
   rightly_truthful w (replied ∷ turns) (right, rightly) = rightly_truthful (advance book w replied) turns rightly
   rightly_truthful w (loses ∷ turns) (right, rightly) = rightly_truthful (advance book w loses) turns rightly

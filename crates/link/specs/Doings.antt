@@ -27,13 +27,15 @@ module _ {T : Type 0} where
   if_joined (Some repeats) events = events
 
 module _ {T : Type 0} where
-  -- on the channel to the hut
+  -- to the channel to the hut: by a send
   abbrev pub send_does : List T → LinkState T → List (Event T)
   send_does book link = if_joined link.repeats (sender.send_puts book link.sender link.to_hut)
 
+  -- by a carry
   abbrev pub carry_does : Heard → LinkState T → List (Event T)
   carry_does heard link = if_joined link.repeats (polls heard link.to_hut)
 
+  -- by any call
   abbrev pub to_hut_does : List T → Heard → Call → LinkState T → List (Event T)
   to_hut_does book heard (call.Request start count) link = []
   to_hut_does book heard call.Send link = send_does book link
@@ -48,13 +50,15 @@ module _ {T : Type 0} where
   to_hut_does book heard call.Break link = []
   to_hut_does book heard call.Meet link = []
 
-  -- on the channel back
+  -- to the channel back: by a reply
   abbrev pub reply_does : LinkState T → List (Event EmptyLoad)
   reply_does link = if_joined link.repeats (hut.reply_puts link.hut link.back)
 
+  -- by a return
   abbrev pub return_does : Heard → LinkState T → List (Event EmptyLoad)
   return_does heard link = if_joined link.repeats (polls heard link.back)
 
+  -- by any call
   abbrev pub back_does : Heard → Call → LinkState T → List (Event EmptyLoad)
   back_does heard (call.Request start count) link = []
   back_does heard call.Send link = []

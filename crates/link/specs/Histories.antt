@@ -13,7 +13,7 @@ use Rattle.link.specs.Truths.{Truthful}
 use Rattle.link.specs.Turns.{turns}
 
 module _ {T : Type 0} where
-  -- what the channel chose, where an answer tells
+  -- what the channel chose, by the answer of a poll; of any other call nothing asks for it
   abbrev pub choice : Result (Answer T) LinkRefusal → Heard
   choice (Ok Done) = Still
   choice (Ok (Polled heard)) = heard

@@ -13,6 +13,7 @@ use Rattle.link.specs.declared.places.HutEvent.{HutEvent}
 use Rattle.link.specs.declared.places.HutEvent.TheVariants.{Arrive, Tell, Reply, Break, Meet}
 use Rattle.link.specs.declared.refusals.LinkRefusal.{LinkRefusal}
 use Rattle.link.specs.declared.refusals.LinkRefusal.TheVariants.{NotDue, ChannelFull}
+use Rattle.link.specs.Dues.{next_if, moves}
 use Rattle.link.specs.States.{HutState}
 
 -- two bits are the same
@@ -28,7 +29,7 @@ mark_of frame = cond frame.last mark.Ok (cond frame.first mark.First mark.Incomp
 abbrev pub reply_to : {T : Type 0} → Frame T → Frame EmptyLoad
 reply_to frame = record { first = frame.first; last = frame.last; toggle = frame.toggle; load = record {} }
 
--- the hut's places at which calls are due
+-- the hut's places at which calls are due: WF, SI, SA, SA or RTS, and NOK
 abbrev pub awaits : HutPlace → Bool
 awaits AwaitsFrame = true
 awaits ToTell = false
@@ -64,9 +65,7 @@ to_break ToReply = false
 to_break ToReplyAgain = false
 to_break ToTellBreak = true
 
-abbrev pub next_if : Bool → HutPlace → Result HutPlace LinkRefusal
-next_if due place = cond due (Ok place) (Err NotDue)
-
+-- what a reply gives: its answer, the end after, and what waits in the channel back after
 abbrev pub Replied : Type 0 → Type 0
 Replied T = Result (Unit {0}) LinkRefusal × HutState T × List (Frame EmptyLoad)
 
@@ -83,12 +82,8 @@ module _ {T : Type 0} where
   next_place Break hut = next_if (to_break hut.place) AwaitsFrame
   next_place Meet hut = next_if (hut.quiet && awaits hut.place) AwaitsFrame
 
-  -- a call that is not due is turned down, and the end stays
-  abbrev pub moves : {X : Type 0} → Result HutPlace LinkRefusal → HutState T → X → (HutPlace → HutState T) → Result X LinkRefusal × HutState T
-  moves (Ok place) hut answer then = (Ok answer, then place)
-  moves (Err why) hut answer then = (Err why, hut)
-
-  -- a frame arrives: it is held where one is awaited; a new one is to be told, a repeat to be replied to again
+  -- a frame arrives, by where that leads: it is held where one is awaited; a new one is to be told, and a repeat to be
+  -- replied to again
   abbrev pub carried_to : Result HutPlace LinkRefusal → HutState T → Frame T → HutState T
   carried_to (Ok place) hut frame =
       cond (is_new hut frame.toggle)
@@ -96,10 +91,11 @@ module _ {T : Type 0} where
       (record hut { place = ToReplyAgain; held = Some frame })
   carried_to (Err why) hut frame = hut
 
+  -- what a frame that arrives leaves of the end
   abbrev pub carried : HutState T → Frame T → HutState T
   carried hut frame = carried_to (next_place Arrive hut) hut frame
 
-  -- tell
+  -- tell, by where it leads and by the frame that is held; an end at this place holds one
   abbrev pub tell_frame : Result HutPlace LinkRefusal → Option (Frame T) → HutState T → Result (Mark × T) LinkRefusal × HutState T
   tell_frame (Err why) held hut = (Err why, hut)
   tell_frame (Ok place) None hut = (Err NotDue, hut)
@@ -108,20 +104,23 @@ module _ {T : Type 0} where
     record hut { place = place; fresh = frame.last; strict = true; expected = not frame.toggle },
   )
 
+  -- tell
   abbrev pub tell : HutState T → Result (Mark × T) LinkRefusal × HutState T
   tell hut = tell_frame (next_place Tell hut) hut.held hut
 
-  -- reply: its answer, the end after, and what waits in the channel back after; from SA the timer goes on
+  -- reply, where it is due, by what waits in the channel back; from SA the timer goes on
   abbrev pub reply_put : HutPlace → Frame T → HutState T → List (Frame EmptyLoad) → Replied T
   reply_put place frame hut [] =
       (Ok tt, record hut { place = place; timer = cond (to_reply hut.place) true hut.timer }, reply_to frame ∷ [])
   reply_put place frame hut (oldest ∷ others) = (Err ChannelFull, hut, oldest ∷ others)
 
+  -- by where it leads and by the frame that is held; an end at these places holds one
   abbrev pub reply_frame : Result HutPlace LinkRefusal → Option (Frame T) → HutState T → List (Frame EmptyLoad) → Replied T
   reply_frame (Err why) held hut waiting = (Err why, hut, waiting)
   reply_frame (Ok place) None hut waiting = (Err NotDue, hut, waiting)
   reply_frame (Ok place) (Some frame) hut waiting = reply_put place frame hut waiting
 
+  -- reply
   abbrev pub reply : HutState T → List (Frame EmptyLoad) → Replied T
   reply hut waiting = reply_frame (next_place Reply hut) hut.held hut waiting
 

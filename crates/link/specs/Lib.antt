@@ -1,7 +1,7 @@
 pub mod Doings
+pub mod Dues
 pub mod Histories
 pub mod Huts
-pub mod Polls
 pub mod Refusals
 pub mod Rules
 pub mod Runs

@@ -5,6 +5,7 @@ use Rattle.link.specs.declared.refusals.LinkRefusal.TheVariants.{AlreadyJoined, 
 use Rattle.link.specs.declared.timers.TimerRefusal.{TimerRefusal}
 use Rattle.link.specs.declared.timers.TimerRefusal.TheVariants as timer
 
+-- the number of each refusal of the link
 abbrev pub number_of : LinkRefusal → ℕ
 number_of AlreadyJoined = 1
 number_of TooManyRepeats = 2
@@ -21,6 +22,7 @@ number_of StillOpen = 12
 number_of NoneConfirmed = 13
 number_of ShortLog = 23
 
+-- and of the timers
 abbrev pub timer_number : TimerRefusal → ℕ
 timer_number timer.TooManyRepeats = 2
 timer_number timer.ShortReplyTimer = 24

@@ -1,4 +1,4 @@
--- The twelve calls: what each answers, and what it leaves of the link.
+-- Join, the twelve calls and the question for the outcome: what each answers, and what it leaves of the link.
 use Rattle.std.specs.Prelude.{ℕ, Bool, true, false, cond, ◌||◌, nat_lt, List, [], ◌∷◌, length, Ok, Err, Result, Some, None, Option}
 use Rattle.loads.specs.declared.frames.Frame.{Frame}
 use Rattle.loads.specs.declared.empties.EmptyLoad.{EmptyLoad}
@@ -19,117 +19,136 @@ use Rattle.link.specs.Senders as sender
 use Rattle.link.specs.Huts as hut
 
 -- an answer, and the link after
-abbrev pub Outcome : Type 0 → Type 0 → Type 0
-Outcome T X = Result X LinkRefusal × LinkState T
+abbrev pub Answered : Type 0 → Type 0 → Type 0
+Answered T X = Result X LinkRefusal × LinkState T
 
 module _ {T X : Type 0} where
   -- every call asks for a joined link first
-  abbrev pub joined_at : Option ℕ → LinkState T → (ℕ → Outcome T X) → Outcome T X
+  abbrev pub joined_at : Option ℕ → LinkState T → (ℕ → Answered T X) → Answered T X
   joined_at None link then = (Err NotJoined, link)
   joined_at (Some repeats) link then = then repeats
 
-  abbrev pub joined : LinkState T → (ℕ → Outcome T X) → Outcome T X
+  -- a call of a joined link, by the repeats
+  abbrev pub joined : LinkState T → (ℕ → Answered T X) → Answered T X
   joined link then = joined_at link.repeats link then
 
   -- what one end does, alone or with its channel
-  abbrev pub by_sender : LinkState T → Result X LinkRefusal × SenderState → Outcome T X
+  abbrev pub by_sender : LinkState T → Result X LinkRefusal × SenderState → Answered T X
   by_sender link (answer, after) = (answer, record link { sender = after })
 
-  abbrev pub by_hut : LinkState T → Result X LinkRefusal × HutState T → Outcome T X
+  abbrev pub by_hut : LinkState T → Result X LinkRefusal × HutState T → Answered T X
   by_hut link (answer, after) = (answer, record link { hut = after })
 
-  abbrev pub by_sender_to_hut : LinkState T → Result X LinkRefusal × SenderState × List (Frame T) → Outcome T X
+  abbrev pub by_sender_to_hut : LinkState T → Result X LinkRefusal × SenderState × List (Frame T) → Answered T X
   by_sender_to_hut link (answer, after, waiting) = (answer, record link { sender = after; to_hut = waiting })
 
-  abbrev pub by_hut_back : LinkState T → Result X LinkRefusal × HutState T × List (Frame EmptyLoad) → Outcome T X
+  abbrev pub by_hut_back : LinkState T → Result X LinkRefusal × HutState T × List (Frame EmptyLoad) → Answered T X
   by_hut_back link (answer, after, waiting) = (answer, record link { hut = after; back = waiting })
 
   -- and what an accepted call does besides
-  abbrev pub besides : (X → LinkState T → LinkState T) → Outcome T X → Outcome T X
+  abbrev pub besides : (X → LinkState T → LinkState T) → Answered T X → Answered T X
   besides more (Ok x, link) = (Ok x, more x link)
   besides more (Err why, link) = (Err why, link)
 
 module _ {T : Type 0} where
-  -- join
-  abbrev pub join_at : Option ℕ → ℕ → LinkState T → Outcome T (Unit {0})
-  join_at (Some joined) repeats link = (Err AlreadyJoined, link)
+  -- join, by whether the link is joined already
+  abbrev pub join_at : Option ℕ → ℕ → LinkState T → Answered T (Unit {0})
+  join_at (Some already) repeats link = (Err AlreadyJoined, link)
   join_at None repeats link =
       cond (nat_lt most_repeats repeats) (Err TooManyRepeats, link)
       (cond (held link.to_hut || held link.back) (Err ChannelHolds, link)
       (Ok tt, started repeats))
 
-  abbrev pub join : ℕ → LinkState T → Outcome T (Unit {0})
+  -- join
+  abbrev pub join : ℕ → LinkState T → Answered T (Unit {0})
   join repeats link = join_at link.repeats repeats link
 
-  abbrev pub request : List T → ℕ → ℕ → LinkState T → Outcome T (Unit {0})
-  request book start count link = joined link (λ repeats.
-      besides (λ _ link. record link { told = 0 }) (by_sender link (sender.request (length book) start count link.sender)))
+  -- request: the hut has been told nothing of the message
+  abbrev pub request : List T → ℕ → ℕ → LinkState T → Answered T (Unit {0})
+  request book start count link = joined link (λ _.
+      besides (λ _ after. record after { told = 0 }) (by_sender link (sender.request (length book) start count link.sender)))
 
-  abbrev pub send : List T → LinkState T → Outcome T (Unit {0})
-  send book link = joined link (λ repeats. by_sender_to_hut link (sender.send book link.sender link.to_hut))
+  -- send
+  abbrev pub send : List T → LinkState T → Answered T (Unit {0})
+  send book link = joined link (λ _. by_sender_to_hut link (sender.send book link.sender link.to_hut))
 
   -- carry, by what the channel chooses for its oldest frame
-  abbrev pub carry_heard : Heard → Frame T → List (Frame T) → LinkState T → Outcome T Heard
+  abbrev pub carry_heard : Heard → Frame T → List (Frame T) → LinkState T → Answered T Heard
   carry_heard Still frame others link = (Ok Still, link)
   carry_heard Arrived frame others link = (Ok Arrived, record link { hut = hut.carried link.hut frame; to_hut = others })
   carry_heard Lost frame others link = (Ok Lost, record link { sender = sender.missed link.sender; to_hut = others })
 
-  abbrev pub carry_from : List (Frame T) → Heard → LinkState T → Outcome T Heard
+  abbrev pub carry_from : List (Frame T) → Heard → LinkState T → Answered T Heard
   carry_from [] heard link = (Err NothingWaits, link)
   carry_from (oldest ∷ others) heard link = carry_heard heard oldest others link
 
-  abbrev pub carry : Heard → LinkState T → Outcome T Heard
-  carry heard link = joined link (λ repeats. carry_from link.to_hut heard link)
+  -- carry
+  abbrev pub carry : Heard → LinkState T → Answered T Heard
+  carry heard link = joined link (λ _. carry_from link.to_hut heard link)
 
-  abbrev pub tell : LinkState T → Outcome T (Mark × T)
-  tell link = joined link (λ repeats.
-      besides (λ _ link. record link { told = sender.more link.told }) (by_hut link (hut.tell link.hut)))
+  -- tell: one load more was told
+  abbrev pub tell : LinkState T → Answered T (Mark × T)
+  tell link = joined link (λ _.
+      besides (λ _ after. record after { told = sender.more after.told }) (by_hut link (hut.tell link.hut)))
 
-  abbrev pub reply : LinkState T → Outcome T (Unit {0})
-  reply link = joined link (λ repeats. by_hut_back link (hut.reply link.hut link.back))
+  -- reply
+  abbrev pub reply : LinkState T → Answered T (Unit {0})
+  reply link = joined link (λ _. by_hut_back link (hut.reply link.hut link.back))
 
   -- return, by what the channel chooses: the bits of a reply are not looked at
-  abbrev pub return_heard : Heard → List (Frame EmptyLoad) → LinkState T → Outcome T Heard
+  abbrev pub return_heard : Heard → List (Frame EmptyLoad) → LinkState T → Answered T Heard
   return_heard Still others link = (Ok Still, link)
   return_heard Arrived others link = (Ok Arrived, record link { sender = sender.replied link.sender; back = others })
   return_heard Lost others link = (Ok Lost, record link { sender = sender.missed link.sender; back = others })
 
-  abbrev pub return_from : List (Frame EmptyLoad) → Heard → LinkState T → Outcome T Heard
+  abbrev pub return_from : List (Frame EmptyLoad) → Heard → LinkState T → Answered T Heard
   return_from [] heard link = (Err NothingWaits, link)
   return_from (oldest ∷ others) heard link = return_heard heard others link
 
-  abbrev pub return : Heard → LinkState T → Outcome T Heard
-  return heard link = joined link (λ repeats. return_from link.back heard link)
+  -- return
+  abbrev pub return : Heard → LinkState T → Answered T Heard
+  return heard link = joined link (λ _. return_from link.back heard link)
 
-  abbrev pub retry : LinkState T → Outcome T (Unit {0})
+  -- retry
+  abbrev pub retry : LinkState T → Answered T (Unit {0})
   retry link = joined link (λ repeats. by_sender link (sender.retry repeats link.sender))
 
-  abbrev pub abandon : LinkState T → Outcome T (Unit {0})
-  abandon link = joined link (λ repeats. by_sender link (sender.abandon link.sender))
+  -- abandon
+  abbrev pub abandon : LinkState T → Answered T (Unit {0})
+  abandon link = joined link (λ _. by_sender link (sender.abandon link.sender))
 
-  abbrev pub confirm : LinkState T → Outcome T Word
-  confirm link = joined link (λ repeats.
-      besides (λ word link. record link { word = Some word }) (by_sender link (sender.confirm link.sender)))
+  -- confirm: the word is kept
+  abbrev pub confirm : LinkState T → Answered T Word
+  confirm link = joined link (λ _.
+      besides (λ word after. record after { word = Some word }) (by_sender link (sender.confirm link.sender)))
 
-  abbrev pub part : LinkState T → Outcome T (Unit {0})
-  part link = joined link (λ repeats.
-      besides (λ _ link. record link { hut = hut.parted link.hut }) (by_sender link (sender.part link.sender)))
+  -- part: of the sender, and then of the hut's end
+  abbrev pub part : LinkState T → Answered T (Unit {0})
+  part link = joined link (λ _.
+      besides (λ _ after. record after { hut = hut.parted after.hut }) (by_sender link (sender.part link.sender)))
 
-  abbrev pub break : LinkState T → Outcome T (Unit {0})
-  break link = joined link (λ repeats. by_hut link (hut.tell_break link.hut))
+  -- break
+  abbrev pub break : LinkState T → Answered T (Unit {0})
+  break link = joined link (λ _. by_hut link (hut.tell_break link.hut))
 
-  abbrev pub meet : LinkState T → Outcome T (Unit {0})
-  meet link = joined link (λ repeats.
-      besides (λ _ link. record link { sender = sender.met link.sender }) (by_hut link (hut.meet link.hut)))
+  -- meet: of the hut's end, and then of the sender
+  abbrev pub meet : LinkState T → Answered T (Unit {0})
+  meet link = joined link (λ _.
+      besides (λ _ after. record after { sender = sender.met after.sender }) (by_hut link (hut.meet link.hut)))
 
--- an outcome whose answer is shown as one of any call
-abbrev pub shown : {T X : Type 0} → (X → Answer T) → Outcome T X → Outcome T (Answer T)
+-- what became of the frame that was polled for, as the answer says; where the call is turned down nothing asks for it
+abbrev pub heard_in : Result Heard LinkRefusal → Heard
+heard_in (Ok heard) = heard
+heard_in (Err why) = Still
+
+-- what was answered, shown as an answer of any call
+abbrev pub shown : {T X : Type 0} → (X → Answer T) → Answered T X → Answered T (Answer T)
 shown show (Ok x, link) = (Ok (show x), link)
 shown show (Err why, link) = (Err why, link)
 
 module _ {T : Type 0} where
   -- any call over a book, by what the channel chooses
-  abbrev pub made : List T → Heard → Call → LinkState T → Outcome T (Answer T)
+  abbrev pub made : List T → Heard → Call → LinkState T → Answered T (Answer T)
   made book heard (call.Request start count) link = shown (λ _. Done) (request book start count link)
   made book heard call.Send link = shown (λ _. Done) (send book link)
   made book heard call.Carry link = shown Polled (carry heard link)
@@ -143,15 +162,11 @@ module _ {T : Type 0} where
   made book heard call.Break link = shown (λ _. Done) (break link)
   made book heard call.Meet link = shown (λ _. Done) (meet link)
 
--- the question for the outcome: the last confirmed message's word and how many of its loads were told
+-- the question for the outcome, on a joined link: the last confirmed message's word and how many of its loads were told
 abbrev pub outcome_at : Bool → Option Word → ℕ → Result (Word × ℕ) LinkRefusal
 outcome_at true word told = Err StillOpen
 outcome_at false None told = Err NoneConfirmed
 outcome_at false (Some word) told = Ok (word, told)
 
-abbrev pub joined_outcome : Option ℕ → Result (Word × ℕ) LinkRefusal → Result (Word × ℕ) LinkRefusal
-joined_outcome None answer = Err NotJoined
-joined_outcome (Some repeats) answer = answer
-
 abbrev pub outcome : {T : Type 0} → LinkState T → Result (Word × ℕ) LinkRefusal
-outcome link = joined_outcome link.repeats (outcome_at link.sender.«open» link.word link.told)
+outcome link = (joined link (λ _. (outcome_at link.sender.«open» link.word link.told, link))).0

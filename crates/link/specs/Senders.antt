@@ -10,9 +10,10 @@ use Rattle.link.specs.declared.places.SenderPlace.TheVariants.{ToSend, AwaitsRep
 use Rattle.link.specs.declared.places.SenderEvent.{SenderEvent}
 use Rattle.link.specs.declared.places.SenderEvent.TheVariants.{Send, Retry, Abandon, Confirm, Part}
 use Rattle.link.specs.declared.refusals.LinkRefusal.{LinkRefusal}
-use Rattle.link.specs.declared.refusals.LinkRefusal.TheVariants.{MessageOpen, BadCount, BeyondBook, NotDue, NoLoad, ChannelFull}
+use Rattle.link.specs.declared.refusals.LinkRefusal.TheVariants.{MessageOpen, BadCount, BeyondBook, NoLoad, ChannelFull}
 use Rattle.link.specs.declared.words.Word.{Word}
 use Rattle.link.specs.declared.words.Word.TheVariants as word
+use Rattle.link.specs.Dues.{next_if, moves}
 use Rattle.link.specs.States.{SenderState}
 
 -- the book's places from `start`
@@ -20,21 +21,22 @@ abbrev pub places : ℕ → ℕ → List ℕ
 places start zero = []
 places start (suc count) = start ∷ places (suc start) count
 
--- no place, and exactly one
+-- whether there is no place
 abbrev pub none : List ℕ → Bool
 none [] = true
-none (place ∷ places) = false
+none (place ∷ others) = false
 
+-- whether there is exactly one
 abbrev pub lone : List ℕ → Bool
 lone [] = false
 lone (place ∷ []) = true
-lone (place ∷ next ∷ places) = false
+lone (place ∷ next ∷ others) = false
 
 -- one more, in 32 bits
 abbrev pub more : ℕ → ℕ
 more count = (count + 1) % 2 ^ 32
 
--- the sender's places at which calls are due
+-- the sender's places at which calls are due: SF, SC and ET2
 abbrev pub to_send : SenderPlace → Bool
 to_send ToSend = true
 to_send AwaitsReply = false
@@ -57,9 +59,6 @@ to_part ToPart = true
 to_part ToMeet = false
 
 -- where an event leads, if it is due
-abbrev pub next_if : Bool → SenderPlace → Result SenderPlace LinkRefusal
-next_if due place = cond due (Ok place) (Err NotDue)
-
 abbrev pub next_place : SenderEvent → SenderState → Result SenderPlace LinkRefusal
 next_place Send sender = next_if (to_send sender.place && sender.«open») AwaitsReply
 next_place Retry sender = next_if (sender.armed && sender.lost) ToSend
@@ -67,16 +66,15 @@ next_place Abandon sender = next_if (to_send sender.place && sender.«open») To
 next_place Confirm sender = next_if (to_confirm sender.place) (cond (none sender.rest) ToSend ToPart)
 next_place Part sender = next_if (to_part sender.place) ToMeet
 
--- a call that is not due is turned down, and the sender stays
-abbrev pub moves : {X : Type 0} → Result SenderPlace LinkRefusal → SenderState → X → (SenderPlace → SenderState) → Result X LinkRefusal × SenderState
-moves (Ok place) sender answer then = (Ok answer, then place)
-moves (Err why) sender answer then = (Err why, sender)
+-- the most loads of a message
+abbrev pub most_loads : ℕ
+most_loads = 4096
 
 -- request: `loads` is how many the book has
 abbrev pub request : ℕ → ℕ → ℕ → SenderState → Result (Unit {0}) LinkRefusal × SenderState
 request loads start count sender =
     cond sender.«open» (Err MessageOpen, sender)
-    (cond (count == 0 || nat_lt 4096 count) (Err BadCount, sender)
+    (cond (count == 0 || nat_lt most_loads count) (Err BadCount, sender)
     (cond (nat_lt loads (start + count)) (Err BeyondBook, sender)
     (Ok tt, record sender { «open» = true; rest = places start count })))
 
@@ -85,6 +83,7 @@ abbrev pub first_load : {T : Type 0} → List T → List ℕ → Option T
 first_load book [] = None
 first_load book (place ∷ others) = slice_get book place
 
+-- what a send gives: its answer, the sender after, and what waits in the channel to the hut after
 abbrev pub Sent : Type 0 → Type 0
 Sent T = Result (Unit {0}) LinkRefusal × SenderState × List (Frame T)
 
@@ -93,20 +92,23 @@ module _ {T : Type 0} where
   abbrev pub frame_of : SenderState → T → Frame T
   frame_of sender load = record { first = sender.first; last = lone sender.rest; toggle = sender.toggle; load = load }
 
-  -- send: its answer, the sender after, and what waits in the channel to the hut after
+  -- send, where it is due and the book has the load, by what waits in the channel to the hut
   abbrev pub send_put : SenderPlace → T → SenderState → List (Frame T) → Sent T
   send_put place load sender [] =
       (Ok tt, record sender { place = place; armed = true; tries = more sender.tries }, frame_of sender load ∷ [])
   send_put place load sender (oldest ∷ others) = (Err ChannelFull, sender, oldest ∷ others)
 
+  -- where it is due, by the load that the book has
   abbrev pub send_load : SenderPlace → Option T → SenderState → List (Frame T) → Sent T
   send_load place None sender waiting = (Err NoLoad, sender, waiting)
   send_load place (Some load) sender waiting = send_put place load sender waiting
 
+  -- by where it leads
   abbrev pub send_at : Result SenderPlace LinkRefusal → List T → SenderState → List (Frame T) → Sent T
   send_at (Ok place) book sender waiting = send_load place (first_load book sender.rest) sender waiting
   send_at (Err why) book sender waiting = (Err why, sender, waiting)
 
+  -- send
   abbrev pub send : List T → SenderState → List (Frame T) → Sent T
   send book sender waiting = send_at (next_place Send sender) book sender waiting
 

@@ -9,7 +9,8 @@ use Rattle.link.specs.declared.places.HutPlace.{HutPlace}
 use Rattle.link.specs.declared.places.HutPlace.TheVariants.{AwaitsFrame}
 use Rattle.link.specs.declared.words.Word.{Word}
 
--- the sender: rest has the book places that are not yet replied to
+-- the sender: first is whether the next load is the first of its message, armed whether a reply is awaited, lost whether a
+-- frame or a reply was lost; rest has the book places that are not yet replied to, tries how often the first was sent
 pub record SenderState : Type 0 where
   pub place : SenderPlace
   pub «open» : Bool
@@ -20,7 +21,9 @@ pub record SenderState : Type 0 where
   pub rest : List ℕ
   pub tries : ℕ
 
--- the hut's end
+-- the hut's end: fresh is whether nothing of the message has been told or all of it, strict whether toggles are compared,
+-- timer whether a reply or a break went out and no new frame has come since, quiet whether the sender has parted and the
+-- ends have not met since, expected the toggle of the next new frame
 pub record HutState (T : Type 0) : Type 0 where
   pub place : HutPlace
   pub fresh : Bool
@@ -30,17 +33,8 @@ pub record HutState (T : Type 0) : Type 0 where
   pub expected : Bool
   pub held : Option (Frame T)
 
--- the link: channel K leads to the hut, and channel L back; repeats are absent where it is not joined
-pub record LinkState (T : Type 0) : Type 0 where
-  pub sender : SenderState
-  pub hut : HutState T
-  pub told : ℕ
-  pub word : Option Word
-  pub repeats : Option ℕ
-  pub to_hut : List (Frame T)
-  pub back : List (Frame EmptyLoad)
-
--- a link with the channels themselves
+-- the link: channel K leads to the hut, and channel L back; told is how many loads of the last message the hut was told,
+-- word how the last message that was confirmed ended; repeats are absent where it is not joined
 pub record LinkParts (T K L : Type 0) : Type 0 where
   pub sender : SenderState
   pub hut : HutState T
@@ -49,6 +43,10 @@ pub record LinkParts (T K L : Type 0) : Type 0 where
   pub repeats : Option ℕ
   pub to_hut : K
   pub back : L
+
+-- a link with the frames that wait in place of its channels
+abbrev pub LinkState : Type 0 → Type 0
+LinkState T = LinkParts T (List (Frame T)) (List (Frame EmptyLoad))
 
 -- a link by the frames that wait in its channels
 abbrev pub plain : {T K L : Type 0} → Ghosts K T → Ghosts L EmptyLoad → LinkParts T K L → LinkState T

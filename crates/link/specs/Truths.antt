@@ -16,15 +16,15 @@ module _ {T : Type 0} where
   marked first (load ∷ next ∷ loads) = (cond first mark.First mark.Incomplete, load) ∷ marked false (next ∷ loads)
 
   -- of what follows a request, that which belongs to its message: up to the confirm, or to the end
-  abbrev pub part : List (Turn T) → List (Turn T)
-  part [] = []
-  part (asks start count ∷ turns) = asks start count ∷ part turns
-  part (tells mark load ∷ turns) = tells mark load ∷ part turns
-  part (replied ∷ turns) = replied ∷ part turns
-  part (loses ∷ turns) = loses ∷ part turns
-  part (gives_up ∷ turns) = gives_up ∷ part turns
-  part (ends word ∷ turns) = ends word ∷ []
-  part (other ∷ turns) = other ∷ part turns
+  abbrev pub message_turns : List (Turn T) → List (Turn T)
+  message_turns [] = []
+  message_turns (asks start count ∷ turns) = asks start count ∷ message_turns turns
+  message_turns (tells mark load ∷ turns) = tells mark load ∷ message_turns turns
+  message_turns (replied ∷ turns) = replied ∷ message_turns turns
+  message_turns (loses ∷ turns) = loses ∷ message_turns turns
+  message_turns (gives_up ∷ turns) = gives_up ∷ message_turns turns
+  message_turns (ends word ∷ turns) = ends word ∷ []
+  message_turns (other ∷ turns) = other ∷ message_turns turns
 
   -- what the hut was told in it, with marks
   abbrev pub tellings : List (Turn T) → List (Mark × T)
@@ -79,11 +79,12 @@ module _ {T : Type 0} where
 
 -- a word against the numbers of loads and of loads told: OK only if all were told, NOT_OK only if one was not, DONT_KNOW
 -- only if at most the last was not
-abbrev pub Fits : Word → ℕ → ℕ → Type 0
-Fits word.Ok loads told = told ≡ loads
-Fits word.NotOk loads told = told < loads
-Fits word.DontKnow loads told = loads ≤ told + 1
+abbrev pub WordFits : Word → ℕ → ℕ → Type 0
+WordFits word.Ok loads told = told ≡ loads
+WordFits word.NotOk loads told = told < loads
+WordFits word.DontKnow loads told = loads ≤ told + 1
 
+-- whether a word is OK
 abbrev pub is_ok : Word → Bool
 is_ok word.Ok = true
 is_ok word.NotOk = false
@@ -92,7 +93,7 @@ is_ok word.DontKnow = false
 -- the word, if there is one, fits what was told, and is OK unless the message was abandoned or a load met too many losses
 abbrev pub WordTrue : Option Word → ℕ → ℕ → Bool → Type 0
 WordTrue None loads told failed = Unit {0}
-WordTrue (Some word) loads told failed = Fits word loads told × (is_ok word ≡ not failed)
+WordTrue (Some word) loads told failed = WordFits word loads told × (is_ok word ≡ not failed)
 
 -- the outcome of a message with this word, if it was confirmed, and so many loads told
 abbrev pub outcome_by : Option Word → ℕ → Result (Word × ℕ) LinkRefusal
@@ -111,7 +112,7 @@ module _ {T : Type 0} where
   abbrev pub Truthful : List T → ℕ → List (Turn T) → Type 0
   Truthful book repeats [] = Unit {0}
   Truthful book repeats (asks start count ∷ turns) =
-      MessageTrue repeats (take count (drop start book)) (part turns) × Truthful book repeats turns
+      MessageTrue repeats (take count (drop start book)) (message_turns turns) × Truthful book repeats turns
   Truthful book repeats (tells mark load ∷ turns) = Truthful book repeats turns
   Truthful book repeats (replied ∷ turns) = Truthful book repeats turns
   Truthful book repeats (loses ∷ turns) = Truthful book repeats turns
@@ -126,7 +127,7 @@ module _ {T : Type 0} where
   -- the outcome of the last message of a history, or else the one that is given
   abbrev pub outcome_or : Result (Word × ℕ) LinkRefusal → List (Turn T) → Result (Word × ℕ) LinkRefusal
   outcome_or last [] = last
-  outcome_or last (asks start count ∷ turns) = outcome_or (message_outcome (part turns)) turns
+  outcome_or last (asks start count ∷ turns) = outcome_or (message_outcome (message_turns turns)) turns
   outcome_or last (tells mark load ∷ turns) = outcome_or last turns
   outcome_or last (replied ∷ turns) = outcome_or last turns
   outcome_or last (loses ∷ turns) = outcome_or last turns
@@ -134,5 +135,6 @@ module _ {T : Type 0} where
   outcome_or last (ends word ∷ turns) = outcome_or last turns
   outcome_or last (other ∷ turns) = outcome_or last turns
 
+  -- the outcome that a history gives
   abbrev pub outcome_of : List (Turn T) → Result (Word × ℕ) LinkRefusal
   outcome_of turns = outcome_or (Err NoneConfirmed) turns

@@ -52,6 +52,7 @@ module _ {T : Type 0} where
   arrived_turn call.Break = other
   arrived_turn call.Meet = other
 
+  -- a call with its answer
   abbrev pub turn : Call → Result (Answer T) LinkRefusal → Turn T
   turn call (Ok Done) = done_turn call
   turn call (Ok (Polled Still)) = other
@@ -61,5 +62,6 @@ module _ {T : Type 0} where
   turn call (Ok (Confirmed word)) = ends word
   turn call (Err why) = other
 
+  -- a history read so
   abbrev pub turns : List (Event T) → List (Turn T)
   turns events = map (λ event. turn event.call event.answer) events

@@ -26,19 +26,19 @@ letter Break = byte "N"
 letter Meet = byte "M"
 
 -- what became of a frame
-abbrev pub heard_word : Heard → List ℕ
-heard_word Still = codes "STILL"
-heard_word Arrived = codes "ARRIVED"
-heard_word Lost = codes "LOST"
+abbrev pub heard_text : Heard → List ℕ
+heard_text Still = codes "STILL"
+heard_text Arrived = codes "ARRIVED"
+heard_text Lost = codes "LOST"
 
 -- a load's place in its message
-abbrev pub mark_word : Mark → List ℕ
-mark_word mark.Ok = codes "OK"
-mark_word mark.First = codes "FIRST"
-mark_word mark.Incomplete = codes "INCOMPLETE"
+abbrev pub mark_text : Mark → List ℕ
+mark_text mark.Ok = codes "OK"
+mark_text mark.First = codes "FIRST"
+mark_text mark.Incomplete = codes "INCOMPLETE"
 
 -- how a message ended
-abbrev pub word_word : Word → List ℕ
-word_word word.Ok = codes "OK"
-word_word word.NotOk = codes "NOT_OK"
-word_word word.DontKnow = codes "DONT_KNOW"
+abbrev pub word_text : Word → List ℕ
+word_text word.Ok = codes "OK"
+word_text word.NotOk = codes "NOT_OK"
+word_text word.DontKnow = codes "DONT_KNOW"

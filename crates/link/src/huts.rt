@@ -20,7 +20,7 @@ pub struct Hut<T> {
     fresh: bool,
     // toggles are compared
     strict: bool,
-    // the hut waits for the message to go on
+    // a reply or a break went out, and no new frame has come since
     timer: bool,
     // the sender has parted, and they have not met since
     quiet: bool,
@@ -77,7 +77,7 @@ impl<T: Copy> Hut<T> {
     }
 
     // Where an event leads, if it is due.
-    fn next(&self, event: HutEvent) -> Result<HutPlace, LinkRefusal>
+    fn next_place(&self, event: HutEvent) -> Result<HutPlace, LinkRefusal>
         ensures answer { result ≡ hut.next_place event self.now }
     {
         match (self.place, event) {
@@ -95,7 +95,7 @@ impl<T: Copy> Hut<T> {
     pub fn carry(&mut self, frame: &Frame<T>)
         ensures after { self.new ≡ hut.carried self.old frame.now }
     {
-        let Ok(place) = self.next(HutEvent::Arrive) else {
+        let Ok(place) = self.next_place(HutEvent::Arrive) else {
             return;
         };
         if self.strict && frame.toggle != self.expected {
@@ -112,7 +112,7 @@ impl<T: Copy> Hut<T> {
         ensures answer { result ≡ (hut.tell self.old).0 }
         ensures after { self.new ≡ (hut.tell self.old).1 }
     {
-        let place = self.next(HutEvent::Tell)?;
+        let place = self.next_place(HutEvent::Tell)?;
         let frame = self.held.ok_or(LinkRefusal::NotDue)?;
         self.place = place;
         self.fresh = frame.last;
@@ -125,9 +125,10 @@ impl<T: Copy> Hut<T> {
     pub fn reply<L: Channel<EmptyLoad>>(&mut self, channel: &mut L) -> Result<(), LinkRefusal>
         ensures answer { result ≡ (hut.reply self.old (L.waiting channel.old)).0 }
         ensures after { self.new ≡ (hut.reply self.old (L.waiting channel.old)).1 }
+        ensures waiting { L.waiting channel.new ≡ (hut.reply self.old (L.waiting channel.old)).2 }
         ensures puts { Row L.Channel channel.old (hut.reply_puts self.old (L.waiting channel.old)) channel.new }
     {
-        let place = self.next(HutEvent::Reply)?;
+        let place = self.next_place(HutEvent::Reply)?;
         let frame = self.held.ok_or(LinkRefusal::NotDue)?;
         channel.put(&reply_to(&frame))?;
         if self.place == HutPlace::ToReply {
@@ -157,7 +158,7 @@ impl<T: Copy> Hut<T> {
         ensures answer { result ≡ (hut.tell_break self.old).0 }
         ensures after { self.new ≡ (hut.tell_break self.old).1 }
     {
-        self.place = self.next(HutEvent::Break)?;
+        self.place = self.next_place(HutEvent::Break)?;
         self.fresh = true;
         self.timer = true;
         Ok(())
@@ -168,7 +169,7 @@ impl<T: Copy> Hut<T> {
         ensures answer { result ≡ (hut.meet self.old).0 }
         ensures after { self.new ≡ (hut.meet self.old).1 }
     {
-        self.place = self.next(HutEvent::Meet)?;
+        self.place = self.next_place(HutEvent::Meet)?;
         self.quiet = false;
         Ok(())
     }

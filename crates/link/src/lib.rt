@@ -1,4 +1,4 @@
-// The link: a sender, a hut's end, and two channels between them.
+// The link: its two ends, its twelve calls and runs of them, the law over all histories, and the timer question.
 
 #![tactic(auto)]
 
@@ -20,7 +20,6 @@ pub use events::{Answer, Event};
 pub use histories::histories_are_truthful;
 pub use huts::Hut;
 pub use links::Link;
-pub use places::{HutPlace, SenderPlace};
 pub use refusals::LinkRefusal;
 pub use senders::Sender;
 pub use timers::{TimerRefusal, timers_fit};

@@ -1,12 +1,11 @@
-// The link: a sender, a hut's end, and the channels between them.
+// The link between a sender and a hut's end, with its twelve calls. Each call is a step of a history by its clauses.
 ghost use Rattle.std.specs.Prelude.{◌≡◌, ℕ, List, [], None, Ok, IsOk};
 ghost use Rattle.std.specs.Option.{ok_or};
 ghost use Rattle.link.specs.declared.refusals.LinkRefusal.TheVariants.{NotJoined};
 ghost use Rattle.loads.specs.declared.empties.EmptyLoad.{EmptyLoad};
 ghost use Rattle.link.specs.States.{LinkParts, plain, sender_start, hut_start};
 ghost use Rattle.channel.specs.Rows.{Row};
-ghost use Rattle.link.specs.Doings.{send_does, reply_does};
-ghost use Rattle.link.specs.Polls.{Carried, Returned};
+ghost use Rattle.link.specs.Doings.{send_does, carry_does, reply_does, return_does};
 ghost use Rattle.link.specs.Rules as rule;
 ghost use Rattle.link.specs.declared.events.Event.{Event};
 ghost use Rattle.link.specs.Histories.{Reached};
@@ -31,7 +30,7 @@ pub struct Link<T, K, L> {
     told: u32,
     // how the last message that was confirmed ended
     word: Option<Word>,
-    // how often a load is sent again; none where it is not joined
+    // how often a load may be sent again; none where it is not joined
     repeats: Option<u8>,
     to_hut: K,
     back: L,
@@ -121,7 +120,9 @@ impl<T: Load, K: Channel<T>, L: Channel<EmptyLoad>> Link<T, K, L> {
 
     // Polls the channel to the hut. Open: what becomes of a frame that waits there.
     pub fn carry(&mut self) -> Result<Heard, LinkRefusal>
-        ensures open_answer { Carried K.Channel L.Channel self.old result self.new }
+        ensures open_answer { result ≡ (rule.carry (rule.heard_in result) (plain K.Channel L.Channel self.old)).0 }
+        ensures after { plain K.Channel L.Channel self.new ≡ (rule.carry (rule.heard_in result) (plain K.Channel L.Channel self.old)).1 }
+        ensures channels { Row K.Channel self.old.to_hut (carry_does (rule.heard_in result) (plain K.Channel L.Channel self.old)) self.new.to_hut × (self.new.back ≡ self.old.back) }
     {
         self.joined()?;
         match self.to_hut.poll() {
@@ -162,7 +163,9 @@ impl<T: Load, K: Channel<T>, L: Channel<EmptyLoad>> Link<T, K, L> {
 
     // Polls the channel back. Open: what becomes of a reply that waits there.
     pub fn return_reply(&mut self) -> Result<Heard, LinkRefusal>
-        ensures open_answer { Returned K.Channel L.Channel self.old result self.new }
+        ensures open_answer { result ≡ (rule.return (rule.heard_in result) (plain K.Channel L.Channel self.old)).0 }
+        ensures after { plain K.Channel L.Channel self.new ≡ (rule.return (rule.heard_in result) (plain K.Channel L.Channel self.old)).1 }
+        ensures channels { (self.new.to_hut ≡ self.old.to_hut) × Row L.Channel self.old.back (return_does (rule.heard_in result) (plain K.Channel L.Channel self.old)) self.new.back }
     {
         self.joined()?;
         match self.back.poll() {

@@ -2,7 +2,7 @@
 
 // The sender's place.
 #[derive(Clone, Copy, Debug, PartialEq, Eq)]
-pub enum SenderPlace {
+pub(crate) enum SenderPlace {
     // SF: it may send.
     ToSend,
     // WA: it awaits a reply.
@@ -27,7 +27,7 @@ pub(crate) enum SenderEvent {
 
 // The hut's place.
 #[derive(Clone, Copy, Debug, PartialEq, Eq)]
-pub enum HutPlace {
+pub(crate) enum HutPlace {
     // WF: it awaits a frame.
     AwaitsFrame,
     // SI: it has to tell.

@@ -31,7 +31,7 @@ pub struct Sender {
     toggle: bool,
     // the book's places that are not yet replied to
     rest: Range<usize>,
-    // how often the first of them was sent
+    // how often the load at the first of them was sent; kept past the last reply, until the message is confirmed
     tries: u32,
 }
 
@@ -82,7 +82,7 @@ impl Sender {
     }
 
     // Where an event leads, if it is due.
-    fn next(&self, event: SenderEvent) -> Result<SenderPlace, LinkRefusal>
+    fn next_place(&self, event: SenderEvent) -> Result<SenderPlace, LinkRefusal>
         ensures answer { result ≡ sender.next_place event self.now }
     {
         match (self.place, event) {
@@ -98,7 +98,7 @@ impl Sender {
         }
     }
 
-    // Takes `count` places of a book with so many loads from `start` on.
+    // Opens a message of `count` places from `start` on, in a book of so many loads.
     pub fn request(&mut self, loads: usize, start: u16, count: u16) -> Result<(), LinkRefusal>
         ensures answer { result ≡ (sender.request loads start count self.old).0 }
         ensures after { self.new ≡ (sender.request loads start count self.old).1 }
@@ -123,7 +123,7 @@ impl Sender {
         ensures answer { result ≡ (sender.abandon self.old).0 }
         ensures after { self.new ≡ (sender.abandon self.old).1 }
     {
-        self.place = self.next(SenderEvent::Abandon)?;
+        self.place = self.next_place(SenderEvent::Abandon)?;
         Ok(())
     }
 
@@ -132,7 +132,7 @@ impl Sender {
         ensures answer { result ≡ (sender.retry repeats self.old).0 }
         ensures after { self.new ≡ (sender.retry repeats self.old).1 }
     {
-        let place = self.next(SenderEvent::Retry)?;
+        let place = self.next_place(SenderEvent::Retry)?;
         self.place = if self.tries <= u32::from(repeats) {
             place
         } else {
@@ -155,7 +155,7 @@ impl Sender {
         ensures answer { result ≡ (sender.part self.old).0 }
         ensures after { self.new ≡ (sender.part self.old).1 }
     {
-        self.place = self.next(SenderEvent::Part)?;
+        self.place = self.next_place(SenderEvent::Part)?;
         self.first = true;
         self.toggle = !self.toggle;
         Ok(())
@@ -192,9 +192,10 @@ impl Sender {
     ) -> Result<(), LinkRefusal>
         ensures answer { result ≡ (sender.send book.now self.old (K.waiting channel.old)).0 }
         ensures after { self.new ≡ (sender.send book.now self.old (K.waiting channel.old)).1 }
+        ensures waiting { K.waiting channel.new ≡ (sender.send book.now self.old (K.waiting channel.old)).2 }
         ensures puts { Row K.Channel channel.old (sender.send_puts book.now self.old (K.waiting channel.old)) channel.new }
     {
-        let place = self.next(SenderEvent::Send)?;
+        let place = self.next_place(SenderEvent::Send)?;
         let frame = self.frame(book).ok_or(LinkRefusal::NoLoad)?;
         channel.put(&frame)?;
         self.place = place;
@@ -245,7 +246,7 @@ impl Sender {
         ensures answer { result ≡ (sender.confirm self.old).0 }
         ensures after { self.new ≡ (sender.confirm self.old).1 }
     {
-        let place = self.next(SenderEvent::Confirm)?;
+        let place = self.next_place(SenderEvent::Confirm)?;
         let word = self.word();
         self.place = place;
         self.open = false;

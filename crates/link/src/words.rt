@@ -1,6 +1,6 @@
 // The words that a link gives: of a message, of a load, and of a channel.
 ghost use Rattle.std.specs.Prelude.{◌≡◌};
-ghost use Rattle.link.specs.Words.{word_word, mark_word, heard_word};
+ghost use Rattle.link.specs.Words.{word_text, mark_text, heard_text};
 
 // How a message ended.
 #[derive(Clone, Copy, Debug, PartialEq, Eq)]
@@ -38,7 +38,7 @@ pub enum Heard {
 impl Word {
     // As it is known outside.
     pub fn word(&self) -> &'static str
-        ensures answer { result.now ≡ word_word self.now }
+        ensures answer { result.now ≡ word_text self.now }
     {
         match self {
             Word::Ok => "OK",
@@ -51,7 +51,7 @@ impl Word {
 impl Mark {
     // As it is known outside.
     pub fn word(&self) -> &'static str
-        ensures answer { result.now ≡ mark_word self.now }
+        ensures answer { result.now ≡ mark_text self.now }
     {
         match self {
             Mark::Ok => "OK",
@@ -64,7 +64,7 @@ impl Mark {
 impl Heard {
     // As it is known outside.
     pub fn word(&self) -> &'static str
-        ensures answer { result.now ≡ heard_word self.now }
+        ensures answer { result.now ≡ heard_text self.now }
     {
         match self {
             Heard::Still => "STILL",

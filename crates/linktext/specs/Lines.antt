@@ -8,7 +8,7 @@ use Rattle.link.specs.declared.events.Event.{Event}
 use Rattle.link.specs.declared.refusals.LinkRefusal.{LinkRefusal}
 use Rattle.link.specs.declared.words.Word.{Word}
 use Rattle.link.specs.Refusals.{number_of}
-use Rattle.link.specs.Words.{letter, heard_word, mark_word, word_word}
+use Rattle.link.specs.Words.{letter, heard_text, mark_text, word_text}
 use Rattle.frametext.specs.Hexadecimals.{hexadecimal}
 
 -- by the load kind
@@ -20,9 +20,9 @@ module _ {T : Type 0} (kind : Ghosts T) where
   -- what an accepted call shows: the answer of a poll, the mark and the load that the hut is told, or the word
   abbrev pub shown_text : Result (Answer T) LinkRefusal → List ℕ
   shown_text (Ok Done) = []
-  shown_text (Ok (Polled heard)) = codes " " ++ heard_word heard
-  shown_text (Ok (Told mark load)) = codes " " ++ (mark_word mark ++ (codes " " ++ load_text load))
-  shown_text (Ok (Confirmed word)) = codes " " ++ word_word word
+  shown_text (Ok (Polled heard)) = codes " " ++ heard_text heard
+  shown_text (Ok (Told mark load)) = codes " " ++ (mark_text mark ++ (codes " " ++ load_text load))
+  shown_text (Ok (Confirmed word)) = codes " " ++ word_text word
   shown_text (Err why) = []
 
   -- the letter, the number of the answer, and what is shown
@@ -32,4 +32,4 @@ module _ {T : Type 0} (kind : Ghosts T) where
 
 -- the word of a message, and how many of its loads were told
 abbrev pub outcome_text : Word → ℕ → List ℕ
-outcome_text word told = codes "outcome " ++ (word_word word ++ (codes " " ++ decimal told))
+outcome_text word told = codes "outcome " ++ (word_text word ++ (codes " " ++ decimal told))
