@@ -7,6 +7,7 @@ use Rattle.link.specs.declared.calls.Call.{Call}
 use Rattle.link.specs.declared.calls.Call.TheVariants as call
 use Rattle.link.specs.declared.events.Answer.{Answer}
 use Rattle.link.specs.declared.events.Answer.TheVariants.{Done, Polled, Told, Confirmed}
+use Rattle.link.specs.declared.events.Event.{Event}
 use Rattle.link.specs.declared.refusals.LinkRefusal.{LinkRefusal}
 use Rattle.link.specs.declared.refusals.LinkRefusal.TheVariants.{AlreadyJoined, TooManyRepeats, ChannelHolds, NotJoined, NothingWaits, StillOpen, NoneConfirmed}
 use Rattle.link.specs.declared.words.Heard.{Heard}
@@ -141,10 +142,18 @@ abbrev pub heard_in : Result Heard LinkRefusal → Heard
 heard_in (Ok heard) = heard
 heard_in (Err why) = Still
 
--- what was answered, shown as an answer of any call
+-- an answer, shown as one of any call
+abbrev pub answered : {T X : Type 0} → (X → Answer T) → Result X LinkRefusal → Result (Answer T) LinkRefusal
+answered show (Ok x) = Ok (show x)
+answered show (Err why) = Err why
+
+-- a call that was answered so, as an event
+abbrev pub event_of : {T X : Type 0} → Call → (X → Answer T) → Result X LinkRefusal → Event T
+event_of call show answer = record { call = call; answer = answered show answer }
+
+-- what a call answers and leaves, with its answer so shown
 abbrev pub shown : {T X : Type 0} → (X → Answer T) → Answered T X → Answered T (Answer T)
-shown show (Ok x, link) = (Ok (show x), link)
-shown show (Err why, link) = (Err why, link)
+shown show (answer, link) = (answered show answer, link)
 
 module _ {T : Type 0} where
   -- any call over a book, by what the channel chooses

@@ -8,7 +8,9 @@ ghost use Rattle.channel.specs.Rows.{Row};
 ghost use Rattle.link.specs.Doings.{send_does, carry_does, reply_does, return_does};
 ghost use Rattle.link.specs.Rules as rule;
 ghost use Rattle.link.specs.declared.events.Event.{Event};
-ghost use Rattle.link.specs.Histories.{Reached};
+ghost use Rattle.link.specs.Histories.{Reached, Step};
+ghost use Rattle.link.specs.declared.calls.Call.TheVariants as call;
+ghost use Rattle.link.specs.declared.events.Answer.TheVariants.{Done, Polled, Told, Confirmed};
 ghost use Rattle.link.specs.Truths.{outcome_of};
 ghost use Rattle.link.specs.Turns.{turns};
 
@@ -101,6 +103,7 @@ impl<T: Load, K: Channel<T>, L: Channel<EmptyLoad>> Link<T, K, L> {
         ensures answer { result ≡ (rule.request book.now start count (plain K.Channel L.Channel self.old)).0 }
         ensures after { plain K.Channel L.Channel self.new ≡ (rule.request book.now start count (plain K.Channel L.Channel self.old)).1 }
         ensures channels { (self.new.to_hut ≡ self.old.to_hut) × (self.new.back ≡ self.old.back) }
+        ensures step { Step book.now (plain K.Channel L.Channel self.old) (rule.event_of (call.Request start count) (λ _. Done) result) (plain K.Channel L.Channel self.new) }
     {
         self.joined()?;
         self.sender.request(book.len(), start, count)?;
@@ -113,6 +116,7 @@ impl<T: Load, K: Channel<T>, L: Channel<EmptyLoad>> Link<T, K, L> {
         ensures answer { result ≡ (rule.send book.now (plain K.Channel L.Channel self.old)).0 }
         ensures after { plain K.Channel L.Channel self.new ≡ (rule.send book.now (plain K.Channel L.Channel self.old)).1 }
         ensures channels { Row K.Channel self.old.to_hut (send_does book.now (plain K.Channel L.Channel self.old)) self.new.to_hut × (self.new.back ≡ self.old.back) }
+        ensures step { Step book.now (plain K.Channel L.Channel self.old) (rule.event_of call.Send (λ _. Done) result) (plain K.Channel L.Channel self.new) }
     {
         self.joined()?;
         self.sender.send(book, &mut self.to_hut)
@@ -123,6 +127,7 @@ impl<T: Load, K: Channel<T>, L: Channel<EmptyLoad>> Link<T, K, L> {
         ensures open_answer { result ≡ (rule.carry (rule.heard_in result) (plain K.Channel L.Channel self.old)).0 }
         ensures after { plain K.Channel L.Channel self.new ≡ (rule.carry (rule.heard_in result) (plain K.Channel L.Channel self.old)).1 }
         ensures channels { Row K.Channel self.old.to_hut (carry_does (rule.heard_in result) (plain K.Channel L.Channel self.old)) self.new.to_hut × (self.new.back ≡ self.old.back) }
+        ensures step { (book : List T) → Step book (plain K.Channel L.Channel self.old) (rule.event_of call.Carry Polled result) (plain K.Channel L.Channel self.new) }
     {
         self.joined()?;
         match self.to_hut.poll() {
@@ -144,6 +149,7 @@ impl<T: Load, K: Channel<T>, L: Channel<EmptyLoad>> Link<T, K, L> {
         ensures answer { result ≡ (rule.tell (plain K.Channel L.Channel self.old)).0 }
         ensures after { plain K.Channel L.Channel self.new ≡ (rule.tell (plain K.Channel L.Channel self.old)).1 }
         ensures channels { (self.new.to_hut ≡ self.old.to_hut) × (self.new.back ≡ self.old.back) }
+        ensures step { (book : List T) → Step book (plain K.Channel L.Channel self.old) (rule.event_of call.Tell (λ told. Told told.0 told.1) result) (plain K.Channel L.Channel self.new) }
     {
         self.joined()?;
         let told = self.hut.tell()?;
@@ -156,6 +162,7 @@ impl<T: Load, K: Channel<T>, L: Channel<EmptyLoad>> Link<T, K, L> {
         ensures answer { result ≡ (rule.reply (plain K.Channel L.Channel self.old)).0 }
         ensures after { plain K.Channel L.Channel self.new ≡ (rule.reply (plain K.Channel L.Channel self.old)).1 }
         ensures channels { (self.new.to_hut ≡ self.old.to_hut) × Row L.Channel self.old.back (reply_does (plain K.Channel L.Channel self.old)) self.new.back }
+        ensures step { (book : List T) → Step book (plain K.Channel L.Channel self.old) (rule.event_of call.Reply (λ _. Done) result) (plain K.Channel L.Channel self.new) }
     {
         self.joined()?;
         self.hut.reply(&mut self.back)
@@ -166,6 +173,7 @@ impl<T: Load, K: Channel<T>, L: Channel<EmptyLoad>> Link<T, K, L> {
         ensures open_answer { result ≡ (rule.return (rule.heard_in result) (plain K.Channel L.Channel self.old)).0 }
         ensures after { plain K.Channel L.Channel self.new ≡ (rule.return (rule.heard_in result) (plain K.Channel L.Channel self.old)).1 }
         ensures channels { (self.new.to_hut ≡ self.old.to_hut) × Row L.Channel self.old.back (return_does (rule.heard_in result) (plain K.Channel L.Channel self.old)) self.new.back }
+        ensures step { (book : List T) → Step book (plain K.Channel L.Channel self.old) (rule.event_of call.Return Polled result) (plain K.Channel L.Channel self.new) }
     {
         self.joined()?;
         match self.back.poll() {
@@ -187,6 +195,7 @@ impl<T: Load, K: Channel<T>, L: Channel<EmptyLoad>> Link<T, K, L> {
         ensures answer { result ≡ (rule.retry (plain K.Channel L.Channel self.old)).0 }
         ensures after { plain K.Channel L.Channel self.new ≡ (rule.retry (plain K.Channel L.Channel self.old)).1 }
         ensures channels { (self.new.to_hut ≡ self.old.to_hut) × (self.new.back ≡ self.old.back) }
+        ensures step { (book : List T) → Step book (plain K.Channel L.Channel self.old) (rule.event_of call.Retry (λ _. Done) result) (plain K.Channel L.Channel self.new) }
     {
         let repeats = self.joined()?;
         self.sender.retry(repeats)
@@ -197,6 +206,7 @@ impl<T: Load, K: Channel<T>, L: Channel<EmptyLoad>> Link<T, K, L> {
         ensures answer { result ≡ (rule.abandon (plain K.Channel L.Channel self.old)).0 }
         ensures after { plain K.Channel L.Channel self.new ≡ (rule.abandon (plain K.Channel L.Channel self.old)).1 }
         ensures channels { (self.new.to_hut ≡ self.old.to_hut) × (self.new.back ≡ self.old.back) }
+        ensures step { (book : List T) → Step book (plain K.Channel L.Channel self.old) (rule.event_of call.Abandon (λ _. Done) result) (plain K.Channel L.Channel self.new) }
     {
         self.joined()?;
         self.sender.abandon()
@@ -207,6 +217,7 @@ impl<T: Load, K: Channel<T>, L: Channel<EmptyLoad>> Link<T, K, L> {
         ensures answer { result ≡ (rule.confirm (plain K.Channel L.Channel self.old)).0 }
         ensures after { plain K.Channel L.Channel self.new ≡ (rule.confirm (plain K.Channel L.Channel self.old)).1 }
         ensures channels { (self.new.to_hut ≡ self.old.to_hut) × (self.new.back ≡ self.old.back) }
+        ensures step { (book : List T) → Step book (plain K.Channel L.Channel self.old) (rule.event_of call.Confirm Confirmed result) (plain K.Channel L.Channel self.new) }
     {
         self.joined()?;
         let word = self.sender.confirm()?;
@@ -219,6 +230,7 @@ impl<T: Load, K: Channel<T>, L: Channel<EmptyLoad>> Link<T, K, L> {
         ensures answer { result ≡ (rule.part (plain K.Channel L.Channel self.old)).0 }
         ensures after { plain K.Channel L.Channel self.new ≡ (rule.part (plain K.Channel L.Channel self.old)).1 }
         ensures channels { (self.new.to_hut ≡ self.old.to_hut) × (self.new.back ≡ self.old.back) }
+        ensures step { (book : List T) → Step book (plain K.Channel L.Channel self.old) (rule.event_of call.Part (λ _. Done) result) (plain K.Channel L.Channel self.new) }
     {
         self.joined()?;
         self.sender.part()?;
@@ -231,6 +243,7 @@ impl<T: Load, K: Channel<T>, L: Channel<EmptyLoad>> Link<T, K, L> {
         ensures answer { result ≡ (rule.break (plain K.Channel L.Channel self.old)).0 }
         ensures after { plain K.Channel L.Channel self.new ≡ (rule.break (plain K.Channel L.Channel self.old)).1 }
         ensures channels { (self.new.to_hut ≡ self.old.to_hut) × (self.new.back ≡ self.old.back) }
+        ensures step { (book : List T) → Step book (plain K.Channel L.Channel self.old) (rule.event_of call.Break (λ _. Done) result) (plain K.Channel L.Channel self.new) }
     {
         self.joined()?;
         self.hut.tell_break()
@@ -241,6 +254,7 @@ impl<T: Load, K: Channel<T>, L: Channel<EmptyLoad>> Link<T, K, L> {
         ensures answer { result ≡ (rule.meet (plain K.Channel L.Channel self.old)).0 }
         ensures after { plain K.Channel L.Channel self.new ≡ (rule.meet (plain K.Channel L.Channel self.old)).1 }
         ensures channels { (self.new.to_hut ≡ self.old.to_hut) × (self.new.back ≡ self.old.back) }
+        ensures step { (book : List T) → Step book (plain K.Channel L.Channel self.old) (rule.event_of call.Meet (λ _. Done) result) (plain K.Channel L.Channel self.new) }
     {
         self.joined()?;
         self.hut.meet()?;
