@@ -2,7 +2,7 @@
 use Rattle.std.proofs.Common.{◌≡◌, ℕ, List, [], ◌∷◌, ◌++◌, Result, refl, ◌∙◌}
 use Rattle.loads.specs.declared.empties.EmptyLoad.{EmptyLoad}
 use Rattle.channel.specs.declared.rules.Channel.{Ghosts}
-use Rattle.link.specs.Runs.{Made, Runs}
+use Rattle.link.specs.Runs.{Stepped, Runs}
 use Rattle.link.specs.declared.events.Event.{Event}
 use Rattle.link.specs.Histories.{Step, Ran, Reached, Lawful}
 use Rattle.link.specs.declared.refusals.LinkRefusal.{LinkRefusal}
@@ -27,7 +27,7 @@ ran_lawful book before after events ran repeats history reached =
     (longer, reached_truthful book repeats (history ++ events) after longer)
 
 module _ {T K L : Type 0} (k : Ghosts K T) (l : Ghosts L EmptyLoad) (book : List T) (before after : LinkParts T K L) where
-  pub made_lawful : (event : Event T) → Made k l book before event after → Lawful book (plain k l before) (event ∷ []) (plain k l after)
+  pub made_lawful : (event : Event T) → Stepped k l book before event after → Lawful book (plain k l before) (event ∷ []) (plain k l after)
   made_lawful event made = ran_lawful book (plain k l before) (plain k l after) (event ∷ []) (plain k l after, made.0, refl)
 
   pub runs_lawful : (events : List (Event T)) → Runs k l book before events after → Lawful book (plain k l before) events (plain k l after)

@@ -4,7 +4,7 @@ use Rattle.loads.specs.declared.empties.EmptyLoad.{EmptyLoad}
 use Rattle.channel.specs.declared.rules.Channel.{Ghosts}
 use Rattle.link.specs.declared.events.Event.{Event}
 use Rattle.link.specs.Histories.{Ran}
-use Rattle.link.specs.Runs.{Made, Runs}
+use Rattle.link.specs.Runs.{Stepped, Runs}
 use Rattle.link.specs.States.{LinkState, LinkParts, plain}
 
 -- a history and then another
@@ -17,7 +17,7 @@ ran_on book before between after (event ∷ events) more (next, stepped, ran) th
 module _ {T K L : Type 0} (k : Ghosts K T) (l : Ghosts L EmptyLoad) (book : List T) where
   -- a run and then one call
   pub runs_push : (before between after : LinkParts T K L) (events : List (Event T)) (event : Event T) → Runs k l book before events between
-      → Made k l book between event after → Runs k l book before (events ++ event ∷ []) after
+      → Stepped k l book between event after → Runs k l book before (events ++ event ∷ []) after
   runs_push before between after [] event runs made = (after, rw runs at made, refl)
   runs_push before between after (first ∷ events) event (next, stepped, runs) made =
       (next, stepped, runs_push next between after events event runs made)

@@ -66,8 +66,8 @@ to_break ToReplyAgain = false
 to_break ToTellBreak = true
 
 -- what a reply gives: its answer, the end after, and what waits in the channel back after
-abbrev pub Replied : Type 0 → Type 0
-Replied T = Result (Unit {0}) LinkRefusal × HutState T × List (Frame EmptyLoad)
+abbrev pub ReplyGives : Type 0 → Type 0
+ReplyGives T = Result (Unit {0}) LinkRefusal × HutState T × List (Frame EmptyLoad)
 
 module _ {T : Type 0} where
   -- whether a frame that arrives is new: toggles are compared only while strict is on
@@ -109,19 +109,19 @@ module _ {T : Type 0} where
   tell hut = tell_frame (next_place Tell hut) hut.held hut
 
   -- reply, where it is due, by what waits in the channel back; from SA the timer goes on
-  abbrev pub reply_put : HutPlace → Frame T → HutState T → List (Frame EmptyLoad) → Replied T
+  abbrev pub reply_put : HutPlace → Frame T → HutState T → List (Frame EmptyLoad) → ReplyGives T
   reply_put place frame hut [] =
       (Ok tt, record hut { place = place; timer = cond (to_reply hut.place) true hut.timer }, reply_to frame ∷ [])
   reply_put place frame hut (oldest ∷ others) = (Err ChannelFull, hut, oldest ∷ others)
 
   -- by where it leads and by the frame that is held; an end at these places holds one
-  abbrev pub reply_frame : Result HutPlace LinkRefusal → Option (Frame T) → HutState T → List (Frame EmptyLoad) → Replied T
+  abbrev pub reply_frame : Result HutPlace LinkRefusal → Option (Frame T) → HutState T → List (Frame EmptyLoad) → ReplyGives T
   reply_frame (Err why) held hut waiting = (Err why, hut, waiting)
   reply_frame (Ok place) None hut waiting = (Err NotDue, hut, waiting)
   reply_frame (Ok place) (Some frame) hut waiting = reply_put place frame hut waiting
 
   -- reply
-  abbrev pub reply : HutState T → List (Frame EmptyLoad) → Replied T
+  abbrev pub reply : HutState T → List (Frame EmptyLoad) → ReplyGives T
   reply hut waiting = reply_frame (next_place Reply hut) hut.held hut waiting
 
   -- the put that a reply makes of its channel, if it comes to one

@@ -13,8 +13,8 @@ use Rattle.link.specs.States.{LinkParts, plain}
 
 module _ {T K L : Type 0} (k : Ghosts K T) (l : Ghosts L EmptyLoad) (book : List T) where
   -- one call with its answer: the link by the rules, and each channel by a row of puts and polls
-  abbrev pub Made : LinkParts T K L → Event T → LinkParts T K L → Type 0
-  Made before event after =
+  abbrev pub Stepped : LinkParts T K L → Event T → LinkParts T K L → Type 0
+  Stepped before event after =
       Step book (plain k l before) event (plain k l after)
       × Row k before.to_hut (to_hut_does book (choice event.answer) event.call (plain k l before)) after.to_hut
       × Row l before.back (back_does (choice event.answer) event.call (plain k l before)) after.back
@@ -22,7 +22,7 @@ module _ {T K L : Type 0} (k : Ghosts K T) (l : Ghosts L EmptyLoad) (book : List
   -- calls one after another
   abbrev pub Runs : LinkParts T K L → List (Event T) → LinkParts T K L → Type 0
   Runs before [] after = after ≡ before
-  Runs before (event ∷ events) after = (between : LinkParts T K L) × Made before event between × Runs between events after
+  Runs before (event ∷ events) after = (between : LinkParts T K L) × Stepped before event between × Runs between events after
 
 -- the call of an event
 abbrev pub call_of : {T : Type 0} → Event T → Call

@@ -84,8 +84,8 @@ first_load book [] = None
 first_load book (place ∷ others) = slice_get book place
 
 -- what a send gives: its answer, the sender after, and what waits in the channel to the hut after
-abbrev pub Sent : Type 0 → Type 0
-Sent T = Result (Unit {0}) LinkRefusal × SenderState × List (Frame T)
+abbrev pub SendGives : Type 0 → Type 0
+SendGives T = Result (Unit {0}) LinkRefusal × SenderState × List (Frame T)
 
 module _ {T : Type 0} where
   -- the frame that a send puts
@@ -93,23 +93,23 @@ module _ {T : Type 0} where
   frame_of sender load = record { first = sender.first; last = lone sender.rest; toggle = sender.toggle; load = load }
 
   -- send, where it is due and the book has the load, by what waits in the channel to the hut
-  abbrev pub send_put : SenderPlace → T → SenderState → List (Frame T) → Sent T
+  abbrev pub send_put : SenderPlace → T → SenderState → List (Frame T) → SendGives T
   send_put place load sender [] =
       (Ok tt, record sender { place = place; armed = true; tries = more sender.tries }, frame_of sender load ∷ [])
   send_put place load sender (oldest ∷ others) = (Err ChannelFull, sender, oldest ∷ others)
 
   -- where it is due, by the load that the book has
-  abbrev pub send_load : SenderPlace → Option T → SenderState → List (Frame T) → Sent T
+  abbrev pub send_load : SenderPlace → Option T → SenderState → List (Frame T) → SendGives T
   send_load place None sender waiting = (Err NoLoad, sender, waiting)
   send_load place (Some load) sender waiting = send_put place load sender waiting
 
   -- by where it leads
-  abbrev pub send_at : Result SenderPlace LinkRefusal → List T → SenderState → List (Frame T) → Sent T
+  abbrev pub send_at : Result SenderPlace LinkRefusal → List T → SenderState → List (Frame T) → SendGives T
   send_at (Ok place) book sender waiting = send_load place (first_load book sender.rest) sender waiting
   send_at (Err why) book sender waiting = (Err why, sender, waiting)
 
   -- send
-  abbrev pub send : List T → SenderState → List (Frame T) → Sent T
+  abbrev pub send : List T → SenderState → List (Frame T) → SendGives T
   send book sender waiting = send_at (next_place Send sender) book sender waiting
 
   -- the put that a send makes of its channel, if it comes to one

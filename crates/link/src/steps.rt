@@ -2,7 +2,7 @@
 ghost use Rattle.std.specs.Prelude.{◌≡◌, [], ◌∷◌};
 ghost use Rattle.link.specs.States.{plain};
 ghost use Rattle.link.specs.Histories.{Lawful};
-ghost use Rattle.link.specs.Runs.{Made};
+ghost use Rattle.link.specs.Runs.{Stepped};
 
 use crate::calls::Call;
 use crate::events::{Answer, Event};
@@ -14,7 +14,7 @@ use loads::{Book, EmptyLoad, Load};
 impl<T: Load, K: Channel<T>, L: Channel<EmptyLoad>> Link<T, K, L> {
     // Makes a call of any kind. Open: what becomes of a frame that is polled for.
     fn make(&mut self, book: &Book<T>, call: Call) -> Result<Answer<T>, LinkRefusal>
-        ensures open_answer { Made K.Channel L.Channel book.now self.old (record { call = call; answer = result }) self.new }
+        ensures open_answer { Stepped K.Channel L.Channel book.now self.old (record { call = call; answer = result }) self.new }
     {
         match call {
             Call::Request { start, count } => self.request(book, start, count)?,
@@ -39,7 +39,7 @@ impl<T: Load, K: Channel<T>, L: Channel<EmptyLoad>> Link<T, K, L> {
     // Makes a call of any kind, and gives it with its answer. Open: what becomes of a frame that is polled for.
     pub fn step(&mut self, book: &Book<T>, call: Call) -> Event<T>
         ensures called { result.call ≡ call }
-        ensures open_answer { Made K.Channel L.Channel book.now self.old result self.new }
+        ensures open_answer { Stepped K.Channel L.Channel book.now self.old result self.new }
         ensures law { Lawful book.now (plain K.Channel L.Channel self.old) (result ∷ []) (plain K.Channel L.Channel self.new) }
     {
         let answer = self.make(book, call);
