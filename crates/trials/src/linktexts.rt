@@ -1,6 +1,6 @@
 // The letters of calls, the words of answers, and the printed lines of a link.
 use crate::linksteps::{done, ends, polled, refused, told};
-use link::{Call, Event, Heard, LinkRefusal, Mark, Word};
+use link::{Call, Event, Heard, LinkRefusal, Mark, TimerRefusal, Word};
 use linktext::{call_line, outcome_line};
 use loads::{EmptyLoad, Piece, Reading};
 use std::test::Fail;
@@ -75,11 +75,14 @@ fn lines_of_other_loads(rt: HostRuntime) -> Result<(), Fail> {
 }
 
 #[test]
-fn an_outcome_and_a_refusal_in_words(rt: HostRuntime) -> Result<(), Fail> {
+fn an_outcome_and_refusals_in_words(rt: HostRuntime) -> Result<(), Fail> {
     let line = outcome_line(rt.alloc(), Word::DontKnow, 4_096)?;
     assert_eq!(rt; line.as_str(), "outcome DONT_KNOW 4096");
     let refusal = LinkRefusal::ShortLog;
     let text = format!(in rt.alloc(); "{refusal}")?;
     assert_eq!(rt; text.as_str(), "refused 23");
+    let refusal = TimerRefusal::ShortReplyTimer;
+    let text = format!(in rt.alloc(); "{refusal}")?;
+    assert_eq!(rt; text.as_str(), "refused 24");
     Ok(())
 }
