@@ -13,7 +13,7 @@ use Rattle.link.specs.Truths.{Truthful}
 use Rattle.link.specs.Turns.{turns}
 
 module _ {T : Type 0} where
-  -- what the channel chose, by the answer of a poll; of any other call nothing asks for it
+  -- what the channel chose, by the answer of a poll; for any other call the value is not used
   abbrev pub choice : Result (Answer T) LinkRefusal → Heard
   choice (Ok Done) = Still
   choice (Ok (Polled heard)) = heard
@@ -34,7 +34,7 @@ module _ {T : Type 0} where
   abbrev pub Reached : List T → ℕ → List (Event T) → LinkState T → Type 0
   Reached book repeats history link = (repeats ≤ most_repeats) × Ran book (started repeats) history link
 
-  -- what was true of a history is true of it with these events as well, and the link is where it leads
+  -- every history that leads to the link before goes on with these events to the link after, and the law holds of it
   abbrev pub Lawful : List T → LinkState T → List (Event T) → LinkState T → Type 0
   Lawful book before events after = (repeats : ℕ) (history : List (Event T)) → Reached book repeats history before
       → Reached book repeats (history ++ events) after × Truthful book repeats (turns (history ++ events))

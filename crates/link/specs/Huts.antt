@@ -95,7 +95,7 @@ module _ {T : Type 0} where
   abbrev pub carried : HutState T → Frame T → HutState T
   carried hut frame = carried_to (next_place Arrive hut) hut frame
 
-  -- tell, by where it leads and by the frame that is held; an end at this place holds one
+  -- tell, by whether it is due and where it leads, and by the frame that is held; an end at this place holds one
   abbrev pub tell_frame : Result HutPlace LinkRefusal → Option (Frame T) → HutState T → Result (Mark × T) LinkRefusal × HutState T
   tell_frame (Err why) held hut = (Err why, hut)
   tell_frame (Ok place) None hut = (Err NotDue, hut)
@@ -114,7 +114,7 @@ module _ {T : Type 0} where
       (Ok tt, record hut { place = place; timer = cond (to_reply hut.place) true hut.timer }, reply_to frame ∷ [])
   reply_put place frame hut (oldest ∷ others) = (Err ChannelFull, hut, oldest ∷ others)
 
-  -- by where it leads and by the frame that is held; an end at these places holds one
+  -- by whether it is due and where it leads, and by the frame that is held; an end at these places holds one
   abbrev pub reply_frame : Result HutPlace LinkRefusal → Option (Frame T) → HutState T → List (Frame EmptyLoad) → ReplyGives T
   reply_frame (Err why) held hut waiting = (Err why, hut, waiting)
   reply_frame (Ok place) None hut waiting = (Err NotDue, hut, waiting)

@@ -137,7 +137,7 @@ module _ {T : Type 0} where
   meet link = joined link (λ _.
       besides (λ _ after. record after { sender = sender.met after.sender }) (by_hut link (hut.meet link.hut)))
 
--- what became of the frame that was polled for, as the answer says; where the call is turned down nothing asks for it
+-- what became of the frame that was polled for, as the answer says; where the call is turned down the value is not used
 abbrev pub heard_in : Result Heard LinkRefusal → Heard
 heard_in (Ok heard) = heard
 heard_in (Err why) = Still

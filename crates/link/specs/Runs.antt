@@ -1,4 +1,4 @@
--- Calls on a link over two channels, and what they do to the channels.
+-- Calls on a link over two channels, with what they do to the channels; and a run's answer, its calls and its log.
 use Rattle.std.specs.Prelude.{◌≡◌, ℕ, cond, nat_lt, List, [], ◌∷◌, length, take, drop, Ok, Err, Result}
 use Rattle.loads.specs.declared.empties.EmptyLoad.{EmptyLoad}
 use Rattle.channel.specs.declared.rules.Channel.{Ghosts}

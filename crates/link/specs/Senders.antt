@@ -103,7 +103,7 @@ module _ {T : Type 0} where
   send_load place None sender waiting = (Err NoLoad, sender, waiting)
   send_load place (Some load) sender waiting = send_put place load sender waiting
 
-  -- by where it leads
+  -- by whether it is due, and where it leads
   abbrev pub send_at : Result SenderPlace LinkRefusal → List T → SenderState → List (Frame T) → SendGives T
   send_at (Ok place) book sender waiting = send_load place (first_load book sender.rest) sender waiting
   send_at (Err why) book sender waiting = (Err why, sender, waiting)
@@ -149,13 +149,14 @@ retry repeats sender =
 abbrev pub abandon : SenderState → Result (Unit {0}) LinkRefusal × SenderState
 abandon sender = moves (next_place Abandon sender) sender tt (λ place. record sender { place = place })
 
--- confirm
+-- the word of a message
 abbrev pub word_of : SenderState → Word
 word_of sender =
     cond (none sender.rest) word.Ok
     (cond (lone sender.rest && not (sender.tries == 0)) word.DontKnow
     word.NotOk)
 
+-- confirm
 abbrev pub confirm : SenderState → Result Word LinkRefusal × SenderState
 confirm sender =
     moves (next_place Confirm sender) sender (word_of sender)

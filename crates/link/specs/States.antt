@@ -9,8 +9,9 @@ use Rattle.link.specs.declared.places.HutPlace.{HutPlace}
 use Rattle.link.specs.declared.places.HutPlace.TheVariants.{AwaitsFrame}
 use Rattle.link.specs.declared.words.Word.{Word}
 
--- the sender: first is whether the next load is the first of its message, armed whether a reply is awaited, lost whether a
--- frame or a reply was lost; rest has the book places that are not yet replied to, tries how often the first was sent
+-- the sender: first is whether the next frame is to be marked as the first of its message, armed whether a reply is
+-- awaited, lost whether a frame or a reply was lost, toggle the bit that tells the next load from a repeat; rest has the
+-- book places that are not yet replied to, tries how often the load at the first was sent
 pub record SenderState : Type 0 where
   pub place : SenderPlace
   pub «open» : Bool
@@ -21,9 +22,10 @@ pub record SenderState : Type 0 where
   pub rest : List ℕ
   pub tries : ℕ
 
--- the hut's end: fresh is whether nothing of the message has been told or all of it, strict whether toggles are compared,
--- timer whether a reply or a break went out and no new frame has come since, quiet whether the sender has parted and the
--- ends have not met since, expected the toggle of the next new frame
+-- the hut's end: fresh is whether nothing was told yet, or the load told last was the last of its message, or a break was
+-- told since; strict whether toggles are compared; timer is on from a first reply or a break until a new frame arrives or
+-- a break becomes due; quiet is whether the sender has parted and the ends have not met since; expected is the toggle of
+-- the next new frame, and held the frame that is held
 pub record HutState (T : Type 0) : Type 0 where
   pub place : HutPlace
   pub fresh : Bool

@@ -1,4 +1,4 @@
--- The timer question.
+-- The most repeats of a link, and the timer question.
 use Rattle.std.specs.Prelude.{ℕ, ◌*◌, cond, Ok, Err, Result, nat_lt}
 use Rattle.link.specs.declared.timers.TimerRefusal.{TimerRefusal}
 use Rattle.link.specs.declared.timers.TimerRefusal.TheVariants.{TooManyRepeats, ShortReplyTimer, ShortHutTimer}
@@ -7,7 +7,7 @@ use Rattle.link.specs.declared.timers.TimerRefusal.TheVariants.{TooManyRepeats, 
 abbrev pub most_repeats : ℕ
 most_repeats = 10
 
--- whether the two timers outlast what they wait for, with a channel that keeps a frame for at most `bound` ticks
+-- the two comparisons, with channels that keep a frame for at most `bound` ticks
 abbrev pub timers_fit : ℕ → ℕ → ℕ → ℕ → Result (Unit {0}) TimerRefusal
 timers_fit repeats bound t1 t2 =
     cond (nat_lt most_repeats repeats) (Err TooManyRepeats)

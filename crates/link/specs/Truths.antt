@@ -1,4 +1,4 @@
--- What is true of a history: of each message, what the hut was told, the word, and when it is not OK.
+-- What is true of a history: of each message, what the hut was told, the word, and when it is not OK; and the outcome.
 use Rattle.std.specs.Prelude.{◌≡◌, ℕ, zero, suc, ◌+◌, ◌<◌, ◌≤◌, Bool, true, false, cond, not, ◌||◌, List, [], ◌∷◌, take, drop, length, Ok, Err, Result, Some, None, Option, ◌==◌}
 use Rattle.link.specs.declared.refusals.LinkRefusal.{LinkRefusal}
 use Rattle.link.specs.declared.refusals.LinkRefusal.TheVariants.{StillOpen, NoneConfirmed}
@@ -90,7 +90,8 @@ is_ok word.Ok = true
 is_ok word.NotOk = false
 is_ok word.DontKnow = false
 
--- the word, if there is one, fits what was told, and is OK unless the message was abandoned or a load met too many losses
+-- the word, if there is one, fits what was told, and is OK exactly if the message was not abandoned and no load met one
+-- loss more than the repeats
 abbrev pub WordTrue : Option Word → ℕ → ℕ → Bool → Type 0
 WordTrue None loads told failed = Unit {0}
 WordTrue (Some word) loads told failed = WordFits word loads told × (is_ok word ≡ not failed)

@@ -37,7 +37,7 @@ module _ {T : Type 0} where
   done_turn call.Break = other
   done_turn call.Meet = other
 
-  -- a poll that answered ARRIVED: of the two calls that poll, only a return is a reply
+  -- a poll that answered ARRIVED: of the two calls that poll, only a return brings a reply
   abbrev pub arrived_turn : Call → Turn T
   arrived_turn (call.Request start count) = other
   arrived_turn call.Send = other

@@ -31,7 +31,7 @@ heard_text Still = codes "STILL"
 heard_text Arrived = codes "ARRIVED"
 heard_text Lost = codes "LOST"
 
--- a load's place in its message
+-- a load's position in its message
 abbrev pub mark_text : Mark → List ℕ
 mark_text mark.Ok = codes "OK"
 mark_text mark.First = codes "FIRST"

@@ -21,7 +21,7 @@ pub enum Call {
 }
 
 impl Call {
-    // The letter by which a call sheet has this call.
+    // The letter of this call in a printed line.
     pub fn letter(&self) -> char
         ensures answer { result ≡ letter_of self.now }
     {

@@ -8,7 +8,7 @@ ghost use Rattle.link.specs.Truths.{Truthful, outcome_of};
 ghost use Rattle.link.specs.Turns.{turns};
 
 // The law, of every history over one book from an accepted join on, however its calls were picked: one call more makes it
-// a longer history, each of its messages is true, and the link where it leads says of the last one what the history says.
+// a longer history, the law holds of each of its messages, and the link where it leads says of the last one what the history says.
 #[tactic(auto, using(crate::proofs::Laws::reached_longer, crate::proofs::Moves::reached_truthful, crate::proofs::Moves::reached_outcome))]
 pub fn histories_are_truthful<T>()
     ensures longer { (book : List T) (repeats : ℕ) (history : List (Event T)) (before after : LinkState T) (event : Event T) → Reached book repeats history before → Step book before event after → Reached book repeats (history ++ event ∷ []) after }

@@ -16,11 +16,11 @@ use std::marker::Model;
 #[derive(Drop)]
 pub struct Hut<T> {
     place: HutPlace,
-    // nothing of the message has been told, or all of it
+    // nothing was told yet, or the load told last was the last of its message, or a break was told since
     fresh: bool,
     // toggles are compared
     strict: bool,
-    // a reply or a break went out, and no new frame has come since
+    // on from a first reply or a break until a new frame arrives, or a break becomes due
     timer: bool,
     // the sender has parted, and they have not met since
     quiet: bool,

@@ -225,7 +225,7 @@ impl<T: Load, K: Channel<T>, L: Channel<EmptyLoad>> Link<T, K, L> {
         Ok(word)
     }
 
-    // After a failure: the next message begins anew, and a message that was told in part is to be broken.
+    // After another word than OK: the next message begins anew, and a message that was told in part is to be broken.
     pub fn part(&mut self) -> Result<(), LinkRefusal>
         ensures answer { result ≡ (rule.part (plain K.Channel L.Channel self.old)).0 }
         ensures after { plain K.Channel L.Channel self.new ≡ (rule.part (plain K.Channel L.Channel self.old)).1 }
@@ -249,7 +249,7 @@ impl<T: Load, K: Channel<T>, L: Channel<EmptyLoad>> Link<T, K, L> {
         self.hut.tell_break()
     }
 
-    // After a failure: the hut is ready, and the sender may send.
+    // After a part: the hut is ready, and the sender may send.
     pub fn meet(&mut self) -> Result<(), LinkRefusal>
         ensures answer { result ≡ (rule.meet (plain K.Channel L.Channel self.old)).0 }
         ensures after { plain K.Channel L.Channel self.new ≡ (rule.meet (plain K.Channel L.Channel self.old)).1 }

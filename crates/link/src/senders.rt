@@ -1,4 +1,4 @@
-// The sender: it sends the loads of a message one by one, each until it is replied to.
+// The sender: it sends the loads of a message one by one, each again after a loss, up to the repeats.
 ghost use Rattle.std.specs.Prelude.{◌≡◌, ◌-◌, drop, option_map};
 ghost use Rattle.channel.specs.Rows.{Row};
 ghost use Rattle.link.specs.States.{SenderState, sender_start};
@@ -21,7 +21,7 @@ pub struct Sender {
     place: SenderPlace,
     // a message is open
     open: bool,
-    // the next load is the first of its message
+    // the next frame is to be marked as the first of its message
     first: bool,
     // a reply is awaited
     armed: bool,
@@ -127,7 +127,7 @@ impl Sender {
         Ok(())
     }
 
-    // After a loss: sends once more, or gives up where the repeats are used up.
+    // After a loss: may send once more, or has to confirm where the repeats are used up.
     pub fn retry(&mut self, repeats: u8) -> Result<(), LinkRefusal>
         ensures answer { result ≡ (sender.retry repeats self.old).0 }
         ensures after { self.new ≡ (sender.retry repeats self.old).1 }
@@ -150,7 +150,7 @@ impl Sender {
         self.lost = true;
     }
 
-    // After a failure: the next message begins anew.
+    // After another word than OK: the next message begins anew.
     pub fn part(&mut self) -> Result<(), LinkRefusal>
         ensures answer { result ≡ (sender.part self.old).0 }
         ensures after { self.new ≡ (sender.part self.old).1 }

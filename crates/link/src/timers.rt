@@ -1,4 +1,4 @@
-// The timer question: whether timers outlast what they wait for.
+// The timer question, two comparisons that timers have to meet, and the most repeats of a link.
 ghost use Rattle.std.specs.Prelude.{◌≡◌, Some};
 ghost use Rattle.loads.specs.Refusals.{refused_text};
 ghost use Rattle.std.proofs.Common.{rules};
@@ -17,9 +17,9 @@ pub(crate) const MOST_REPEATS: u8 = 10;
 pub enum TimerRefusal {
     // There are more repeats than a link joins with.
     TooManyRepeats = 2,
-    // The sender's timer may end while a frame or its reply is on the way.
+    // t1 is not above twice the bound: a frame and its reply may both be on the way.
     ShortReplyTimer = 24,
-    // The hut's timer may end while the sender still repeats.
+    // t2 is not above repeats times t1: the sender may still repeat.
     ShortHutTimer = 25,
 }
 
@@ -45,8 +45,8 @@ impl fmt::Display for TimerRefusal {
 
 impl Error for TimerRefusal {}
 
-// Whether these timers may be used with a link over channels that keep a frame for at most `bound` ticks: `t1` is the
-// sender's, `t2` the hut's.
+// Whether timers meet two comparisons, with channels that keep a frame for at most `bound` ticks: `t1`, the sender's, is
+// above twice the bound, and `t2`, the hut's, above the time of all repeats.
 pub fn timers_fit(repeats: u8, bound: u16, t1: u16, t2: u16) -> Result<(), TimerRefusal>
     ensures answer { result ≡ fit repeats bound t1 t2 }
 {

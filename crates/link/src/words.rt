@@ -13,7 +13,7 @@ pub enum Word {
     DontKnow,
 }
 
-// A load's place in its message.
+// A load's position in its message.
 #[derive(Clone, Copy, Debug, PartialEq, Eq)]
 pub enum Mark {
     // It is the last.
@@ -36,7 +36,7 @@ pub enum Heard {
 }
 
 impl Word {
-    // As it is known outside.
+    // The printed word.
     pub fn word(&self) -> &'static str
         ensures answer { result.now ≡ word_text self.now }
     {
@@ -49,7 +49,7 @@ impl Word {
 }
 
 impl Mark {
-    // As it is known outside.
+    // The printed word.
     pub fn word(&self) -> &'static str
         ensures answer { result.now ≡ mark_text self.now }
     {
@@ -62,7 +62,7 @@ impl Mark {
 }
 
 impl Heard {
-    // As it is known outside.
+    // The printed word.
     pub fn word(&self) -> &'static str
         ensures answer { result.now ≡ heard_text self.now }
     {

@@ -17,7 +17,8 @@ use loads::{Book, EmptyLoad, Reading};
 // Readings 7, 8 and 9.
 const OCTETS: [u8; 12] = [0, 0, 0, 7, 0, 0, 0, 8, 0, 0, 0, 9];
 
-// The first frame is lost, and so is the reply to the second load, which is then sent once more.
+// The first frame is lost, and so is the reply to the second load; each of the two loads is sent once more. Two calls are
+// not due: the tell of that second load's repeat, and the send after the last reply.
 const CALLS: [Call; 27] = [
     Call::Request { start: 0, count: 3 },
     Call::Send,
@@ -48,7 +49,8 @@ const CALLS: [Call; 27] = [
     Call::Confirm,
 ];
 
-// Joins with 2 repeats and makes the calls. What comes is the history of the link, and the law holds of it.
+// Joins with 2 repeats and makes the calls. What comes is a history that leads to the link, and the law
+// holds of it.
 fn send_three<K: Channel<Reading>, L: Channel<EmptyLoad>>(
     link: &mut Link<Reading, K, L>,
     book: &Book<Reading>,

@@ -2,6 +2,7 @@
 use crate::crossings::{follow, opening};
 use channel::{Channel, Event, Full, Poll};
 use channels::{Hop, Rain, Store};
+use link::Link;
 use loads::{EmptyLoad, Frame};
 
 // A store without `Drop`: a value of it that is neither returned nor taken apart is refused by the compiler.
@@ -56,4 +57,15 @@ fn a_refused_rain_hands_its_channel_back(rt: HostRuntime) {
     let refused = Rain::new(hop, &[3]).unwrap_err();
     let mut store = near_of(refused.below);
     follow(&rt, &mut store, &[Event::Poll(Poll::Arrived(frame))]);
+}
+
+#[test]
+fn a_link_hands_its_channels_back(rt: HostRuntime) {
+    let mut link = Link::<EmptyLoad, Kept, Kept>::new(make_kept(), make_kept());
+    assert_eq!(rt; link.join(0), Ok(()));
+    let (to_hut, back) = link.into_parts();
+    let Kept { store } = to_hut;
+    assert!(rt; !store.holds());
+    let Kept { store } = back;
+    assert!(rt; !store.holds());
 }

@@ -1,4 +1,4 @@
-// A link after a failure: what may be asked for before the ends have met, and how the next message goes.
+// A link after a message: what may be asked for before the ends have met, and how the next message goes.
 use crate::linksteps::{done, ends, follow_link, polled, refused, told};
 use channels::{Store, Wire};
 use link::{Call, Event, Heard, Link, LinkRefusal, Mark, Word};

@@ -1,4 +1,4 @@
-// A message of three loads over a link that loses a frame and a reply: at every load kind, and over piles of channels.
+// A message of three loads over a link that loses a frame and a reply, at every load kind; and of one load over piles.
 use crate::linksteps::{done, ends, follow_link, polled, refused, told};
 use channels::{Hop, Rain, Store, Wire};
 use link::{Call, Event, Heard, Link, LinkRefusal, Mark, Word};
@@ -87,7 +87,7 @@ fn three_empty_loads_are_told(rt: HostRuntime) -> Result<(), Fail> {
 
 // A frame in a hop is STILL at the first poll, and at one more below mark 2.
 #[test]
-fn a_link_over_piles(rt: HostRuntime) -> Result<(), Fail> {
+fn a_load_crosses_piles_that_delay_and_lose(rt: HostRuntime) -> Result<(), Fail> {
     let book = Book::<Reading>::read(rt.alloc(), 1, &[0, 0, 0, 7])?;
     let to_hut = Rain::new(Hop::new(Wire::new(), Store::new()), &[2]).unwrap();
     let back = Rain::new(Hop::new(Store::new(), Wire::new()), &[1]).unwrap();

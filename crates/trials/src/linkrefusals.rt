@@ -1,4 +1,4 @@
-// Every refusal of a link, by its number.
+// The refusals of a link: their numbers, and calls that are turned down by them.
 use crate::crossings::opening;
 use crate::linksteps::{done, follow_link, polled, refused};
 use channel::Channel;
@@ -84,7 +84,7 @@ fn a_link_joins_once(rt: HostRuntime) {
 }
 
 #[test]
-fn a_link_joins_over_empty_channels(rt: HostRuntime) {
+fn a_link_does_not_join_while_a_frame_waits(rt: HostRuntime) {
     let mut to_hut = Store::new();
     assert_eq!(rt; to_hut.put(&opening(Reading { value: 7 })), Ok(()));
     let mut link = Link::new(to_hut, Store::new());
@@ -131,7 +131,7 @@ fn a_request_while_a_message_is_open_is_turned_down(rt: HostRuntime) -> Result<(
 }
 
 #[test]
-fn calls_that_are_not_due_are_turned_down(rt: HostRuntime) -> Result<(), Fail> {
+fn calls_that_are_not_due_after_a_join_are_turned_down(rt: HostRuntime) -> Result<(), Fail> {
     let book = Book::<Reading>::read(rt.alloc(), 3, &THREE_READINGS)?;
     let mut link = Link::new(Wire::<Reading>::new(), Store::new());
     assert_eq!(rt; link.join(0), Ok(()));

@@ -1,4 +1,4 @@
-// Runs of a link: one after another, with calls made one by one after them, and with a log that is too short.
+// Runs of a link: one after another, with a short log, and on a link that is not joined; and calls made one by one.
 use crate::linksteps::{done, ends, polled, refused, told};
 use channels::{Store, Wire};
 use link::{Answer, Call, Event, Heard, Link, LinkRefusal, Mark, Word};
@@ -105,7 +105,7 @@ fn a_run_of_a_link_that_is_not_joined_logs_refusals(rt: HostRuntime) -> Result<(
 }
 
 #[test]
-fn all_calls_one_by_one(rt: HostRuntime) -> Result<(), Fail> {
+fn calls_by_their_methods_up_to_a_break(rt: HostRuntime) -> Result<(), Fail> {
     let book = Book::<Reading>::read(rt.alloc(), 2, &TWO_READINGS)?;
     let mut link = Link::new(Wire::<Reading>::new(), Store::new());
     link.join(0)?;

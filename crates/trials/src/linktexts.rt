@@ -27,7 +27,7 @@ fn calls_have_letters(rt: HostRuntime) {
 }
 
 #[test]
-fn lines_of_readings(rt: HostRuntime) -> Result<(), Fail> {
+fn a_line_shows_what_a_call_answers(rt: HostRuntime) -> Result<(), Fail> {
     let lines: [(Event<Reading>, &str); 14] = [
         (done(Call::Request { start: 0, count: 1 }), "Q 0"),
         (done(Call::Meet), "M 0"),
@@ -62,7 +62,7 @@ fn lines_of_readings(rt: HostRuntime) -> Result<(), Fail> {
 }
 
 #[test]
-fn lines_of_other_loads(rt: HostRuntime) -> Result<(), Fail> {
+fn a_line_shows_the_octets_of_any_load(rt: HostRuntime) -> Result<(), Fail> {
     let piece = Piece::new(20, 1_048_575, 349_525, 3, 0x0123_4567_89AB_CDEF)?;
     let line = call_line(rt.alloc(), &told(Mark::First, piece))?;
     assert_eq!(rt;
@@ -75,7 +75,7 @@ fn lines_of_other_loads(rt: HostRuntime) -> Result<(), Fail> {
 }
 
 #[test]
-fn an_outcome_and_refusals_in_words(rt: HostRuntime) -> Result<(), Fail> {
+fn outcomes_and_refusals_have_their_words(rt: HostRuntime) -> Result<(), Fail> {
     let line = outcome_line(rt.alloc(), Word::DontKnow, 4_096)?;
     assert_eq!(rt; line.as_str(), "outcome DONT_KNOW 4096");
     let refusal = LinkRefusal::ShortLog;

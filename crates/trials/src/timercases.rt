@@ -19,7 +19,7 @@ fn the_hut_waits_longer_than_all_repeats(rt: HostRuntime) {
 }
 
 #[test]
-fn timers_at_the_limits_of_their_bits(rt: HostRuntime) {
+fn no_timer_overflows(rt: HostRuntime) {
     assert_eq!(rt;
         timers_fit(10, 65_535, 65_535, 65_535),
         Err(TimerRefusal::ShortReplyTimer)
