@@ -9,6 +9,7 @@ mod stores;
 mod wires;
 
 pub use hops::Hop;
+pub use marks::{MOST_MARKS, Mark, NotAMark};
 pub use rains::{BadMarks, Rain};
 pub use stores::Store;
 pub use wires::Wire;

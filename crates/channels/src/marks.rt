@@ -6,11 +6,11 @@ ghost use Rattle.channels.specs.Marks.{mark_read, known, good_marks, marks_of, m
 use std::marker::Model;
 
 // The most marks that a rain takes.
-const MOST_MARKS: usize = 64;
+pub const MOST_MARKS: usize = 64;
 
 // What becomes of a frame.
 #[derive(Clone, Copy)]
-pub(crate) enum Mark {
+pub enum Mark {
     // Mark 0: the answers of the channel below are passed on.
     Pass,
     // Mark 1: a frame that arrives is lost.
@@ -21,7 +21,7 @@ pub(crate) enum Mark {
 
 // An octet is above 2.
 #[derive(Drop)]
-pub(crate) struct NotAMark;
+pub struct NotAMark;
 
 impl TryFrom<u8> for Mark {
     type Error = NotAMark;

@@ -22,5 +22,5 @@ pub use huts::Hut;
 pub use links::Link;
 pub use refusals::LinkRefusal;
 pub use senders::Sender;
-pub use timers::{TimerRefusal, timers_fit};
+pub use timers::{MOST_REPEATS, TimerRefusal, timers_fit};
 pub use words::{Heard, Mark, Word};

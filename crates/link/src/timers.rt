@@ -10,7 +10,7 @@ use std::error::Error;
 use std::fmt;
 
 // The most repeats that a link joins with.
-pub(crate) const MOST_REPEATS: u8 = 10;
+pub const MOST_REPEATS: u8 = 10;
 
 // Why timers are turned down, by fixed numbers.
 #[derive(Clone, Copy, Debug, PartialEq, Eq)]
