@@ -1,0 +1,22 @@
+-- The refusals of a sheet, by number, and their printed line.
+use Rattle.std.specs.Prelude.{ℕ, List, ◌++◌, codes, decimal}
+use Rattle.sheet.specs.declared.faults.SheetRefusal.{SheetRefusal}
+use Rattle.sheet.specs.declared.faults.SheetRefusal.TheVariants.{WrongSize, BadSetting, BadDistances, NoLoad, BadMark, BadCall}
+use Rattle.sheet.specs.declared.faults.SheetFault.{SheetFault}
+
+-- the number of each refusal
+abbrev pub number_of : SheetRefusal → ℕ
+number_of WrongSize = 17
+number_of BadSetting = 18
+number_of BadDistances = 19
+number_of NoLoad = 20
+number_of BadMark = 21
+number_of BadCall = 22
+
+-- a refusal at an octet
+abbrev pub fault_at : SheetRefusal → ℕ → SheetFault
+fault_at refusal place = record { refusal = refusal; place = place }
+
+-- the printed line of a sheet that is turned down
+abbrev pub fault_text : SheetFault → List ℕ
+fault_text fault = codes "sheet " ++ (decimal (number_of fault.refusal) ++ (codes " at " ++ decimal fault.place))

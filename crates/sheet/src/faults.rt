@@ -1,0 +1,55 @@
+// Why a sheet is turned down, by fixed numbers, and where.
+ghost use Rattle.std.specs.Prelude.{Some};
+ghost use Rattle.std.proofs.Common.{rules};
+ghost use Rattle.sheet.specs.Faults.{number_of, fault_text};
+
+use loads::Refusal;
+use std::error::Error;
+use std::fmt;
+
+// Why a sheet is turned down.
+#[derive(Clone, Copy, Debug, PartialEq, Eq)]
+pub enum SheetRefusal {
+    // It has fewer octets than a trailer, or more than a sheet may have.
+    WrongSize = 17,
+    // The trailer names no kind of load that a sheet may have, or more repeats than a link joins with.
+    BadSetting = 18,
+    // The trailer's distances do not lead to a book at the first octet, with K's marks, L's marks and calls behind it.
+    BadDistances = 19,
+    // A record of the book spells no load.
+    NoLoad = 20,
+    // A mark is above 2, or there is one more in its list than a rain takes.
+    BadMark = 21,
+    // A letter is of no call, octets of a request are missing, or there is one call more than a sheet may have.
+    BadCall = 22,
+}
+
+impl Refusal for SheetRefusal {
+    ghost number = { number_of };
+
+    ghost nonzero = { Prim.search rules };
+
+    fn number(&self) -> u8 {
+        *self as u8
+    }
+}
+
+// What a sheet is turned down for, and at which octet, counted from 0.
+#[derive(Clone, Copy, Debug, PartialEq, Eq)]
+pub struct SheetFault {
+    pub refusal: SheetRefusal,
+    pub place: usize,
+}
+
+// The printed line of a sheet that is turned down. Open: whether all of it can be written.
+impl fmt::Display for SheetFault {
+    ghost output = { λ fault. Some (fault_text fault) };
+
+    fn fmt<W: fmt::Write>(&self, f: &mut fmt::Formatter<W>) -> fmt::Result {
+        let number = self.refusal.number();
+        let place = self.place;
+        write!(f, "sheet {number} at {place}")
+    }
+}
+
+impl Error for SheetFault {}

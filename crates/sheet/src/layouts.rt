@@ -1,0 +1,97 @@
+// The trailer of a sheet: where its lists are, which kind of load it has, and how many repeats.
+ghost use Rattle.std.specs.Prelude.{◌≡◌, ◌+◌, ◌*◌, ◌<◌, length};
+ghost use Rattle.loads.specs.Octets.{field};
+ghost use Rattle.sheet.specs.Layouts.{layout_reads, load_kind, distance, distances_fit};
+
+use crate::faults::{SheetFault, SheetRefusal};
+use link::MOST_REPEATS;
+use loads::{Load, Piece, Reading};
+
+// The octets of a trailer: four distances of four octets, a kind and the repeats.
+const TRAILER_SIZE: usize = 18;
+
+// The most octets of a sheet.
+const MOST_OCTETS: usize = 16_384;
+
+// Which kind of load a sheet has.
+#[derive(Clone, Copy, Debug, PartialEq, Eq)]
+pub enum LoadKind {
+    Reading,
+    Piece,
+}
+
+// What a trailer says: the settings, and where each list starts and the trailer itself; the book starts at 0.
+#[derive(Clone, Copy)]
+pub(crate) struct Layout {
+    pub(crate) kind: LoadKind,
+    pub(crate) repeats: u8,
+    pub(crate) to_hut: usize,
+    pub(crate) back: usize,
+    pub(crate) calls: usize,
+    pub(crate) trailer: usize,
+}
+
+// The kind of load that an octet names, if a sheet may have it.
+fn load_kind(octet: u8) -> Option<LoadKind>
+    ensures answer { result ≡ load_kind octet }
+{
+    match octet {
+        Reading::KIND => Some(LoadKind::Reading),
+        Piece::KIND => Some(LoadKind::Piece),
+        _ => None,
+    }
+}
+
+// One of the four distances back from the trailer.
+fn distance(trailer: &[u8; TRAILER_SIZE], list: usize) -> usize
+    requires { list < 4 }
+    ensures answer { result ≡ distance list trailer.now }
+{
+    let start = 4 * list;
+    u32::from_be_bytes(trailer[start..start + 4].try_into().unwrap()) as usize
+}
+
+// Whether the book starts at the first octet, and no list before the one that it follows.
+fn distances_fit(place: usize, trailer: &[u8; TRAILER_SIZE]) -> bool
+    ensures answer { result ≡ distances_fit place trailer.now }
+{
+    distance(trailer, 0) == place
+        && distance(trailer, 1) <= distance(trailer, 0)
+        && distance(trailer, 2) <= distance(trailer, 1)
+        && distance(trailer, 3) <= distance(trailer, 2)
+}
+
+impl Layout {
+    // What the trailer of a sheet says, or why the sheet is turned down for it.
+    pub(crate) fn read(octets: &[u8]) -> Result<Layout, SheetFault>
+        ensures answer { result ≡ layout_reads octets.now }
+    {
+        let size = octets.len();
+        let refused = |refusal, place| Err(SheetFault { refusal, place });
+        let Some((lists, trailer)) = octets.split_last_chunk::<TRAILER_SIZE>() else {
+            return refused(SheetRefusal::WrongSize, size);
+        };
+        if size > MOST_OCTETS {
+            return refused(SheetRefusal::WrongSize, size);
+        }
+        let place = lists.len();
+        let [.., kind, repeats] = trailer;
+        let Some(kind) = load_kind(*kind) else {
+            return refused(SheetRefusal::BadSetting, place + 16);
+        };
+        if *repeats > MOST_REPEATS {
+            return refused(SheetRefusal::BadSetting, place + 17);
+        }
+        if !distances_fit(place, trailer) {
+            return refused(SheetRefusal::BadDistances, place);
+        }
+        Ok(Layout {
+            kind,
+            repeats: *repeats,
+            to_hut: place - distance(trailer, 1),
+            back: place - distance(trailer, 2),
+            calls: place - distance(trailer, 3),
+            trailer: place,
+        })
+    }
+}

@@ -1,0 +1,9 @@
+// Call sheets: a book, the marks of two channels, calls and a trailer as one string of octets, and their reader.
+
+#![tactic(auto)]
+
+mod faults;
+mod layouts;
+
+pub use faults::{SheetFault, SheetRefusal};
+pub use layouts::LoadKind;
