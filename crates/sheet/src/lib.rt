@@ -4,6 +4,8 @@
 
 mod faults;
 mod layouts;
+mod parts;
 
 pub use faults::{SheetFault, SheetRefusal};
 pub use layouts::LoadKind;
+pub use parts::{Part, Way};
