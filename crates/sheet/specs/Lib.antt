@@ -1,3 +1,5 @@
 pub mod Faults
 pub mod Layouts
 pub mod Parts
+pub mod Records
+pub mod Lists

@@ -4,7 +4,9 @@
 
 mod faults;
 mod layouts;
+mod lists;
 mod parts;
+mod records;
 
 pub use faults::{SheetFault, SheetRefusal};
 pub use layouts::LoadKind;

@@ -1,0 +1,146 @@
+// The record at the front of a list's octets, and the octets behind it.
+ghost use Rattle.std.specs.Prelude.{◌≡◌, Ok, Err, MatchResult};
+ghost use Rattle.sheet.specs.Parts.{seen};
+ghost use Rattle.sheet.specs.Records.{plain_call, book_record as book_record_of, mark_record as mark_record_of, request_record as request_record_of, call_record as call_record_of};
+
+use crate::faults::{SheetFault, SheetRefusal};
+use crate::parts::{Part, Way};
+use channels::Mark;
+use link::Call;
+use loads::Load;
+
+// A record of the book.
+pub(crate) fn book_record<'s, T: Load>(
+    place: usize,
+    octets: &'s [u8],
+) -> Result<(Part<'s, T>, &'s [u8]), SheetFault>
+    ensures cases { MatchResult result (λ front. book_record_of T.Load place octets.now ≡ Ok (seen front.0, front.1.now)) (λ fault. book_record_of T.Load place octets.now ≡ Err fault) }
+{
+    let refusal = SheetRefusal::NoLoad;
+    let mut rest = octets;
+    let Some(octets) = rest.split_off(..T::SIZE) else {
+        return Err(SheetFault { refusal, place });
+    };
+    let Ok(load) = T::read(octets) else {
+        return Err(SheetFault { refusal, place });
+    };
+    Ok((
+        Part::BookRecord {
+            place,
+            octets,
+            load,
+        },
+        rest,
+    ))
+}
+
+// A mark of a list for one way.
+pub(crate) fn mark_record<'s, T>(
+    way: Way,
+    place: usize,
+    octets: &'s [u8],
+) -> Result<(Part<'s, T>, &'s [u8]), SheetFault>
+    ensures cases { MatchResult result (λ front. mark_record_of way place octets.now ≡ Ok (seen front.0, front.1.now)) (λ fault. mark_record_of {T = T} way place octets.now ≡ Err fault) }
+{
+    let refusal = SheetRefusal::BadMark;
+    let [octet, rest @ ..] = octets else {
+        return Err(SheetFault { refusal, place });
+    };
+    let Ok(mark) = Mark::try_from(*octet) else {
+        return Err(SheetFault { refusal, place });
+    };
+    let octets = &octets[..1];
+    Ok((
+        Part::Mark {
+            place,
+            octets,
+            way,
+            mark,
+        },
+        rest,
+    ))
+}
+
+// A request: its letter, start and count.
+fn request_record<'s, T>(
+    place: usize,
+    octets: &'s [u8],
+) -> Result<(Part<'s, T>, &'s [u8]), SheetFault>
+    ensures cases { MatchResult result (λ front. request_record_of place octets.now ≡ Ok (seen front.0, front.1.now)) (λ fault. request_record_of {T = T} place octets.now ≡ Err fault) }
+{
+    let [
+        _letter,
+        start_high,
+        start_low,
+        count_high,
+        count_low,
+        rest @ ..,
+    ] = octets
+    else {
+        return Err(SheetFault {
+            refusal: SheetRefusal::BadCall,
+            place,
+        });
+    };
+    let start = u16::from_be_bytes([*start_high, *start_low]);
+    let count = u16::from_be_bytes([*count_high, *count_low]);
+    let octets = &octets[..5];
+    Ok((
+        Part::Call {
+            place,
+            octets,
+            call: Call::Request { start, count },
+        },
+        rest,
+    ))
+}
+
+// The call of a letter that has no operands.
+fn plain_call(letter: char) -> Option<Call>
+    ensures answer { result ≡ plain_call letter }
+{
+    match letter {
+        'S' => Some(Call::Send),
+        'C' => Some(Call::Carry),
+        'T' => Some(Call::Tell),
+        'R' => Some(Call::Reply),
+        'B' => Some(Call::Return),
+        'Y' => Some(Call::Retry),
+        'A' => Some(Call::Abandon),
+        'F' => Some(Call::Confirm),
+        'P' => Some(Call::Part),
+        'N' => Some(Call::Break),
+        'M' => Some(Call::Meet),
+        _ => None,
+    }
+}
+
+// A call of any kind.
+pub(crate) fn call_record<'s, T>(
+    place: usize,
+    octets: &'s [u8],
+) -> Result<(Part<'s, T>, &'s [u8]), SheetFault>
+    ensures cases { MatchResult result (λ front. call_record_of place octets.now ≡ Ok (seen front.0, front.1.now)) (λ fault. call_record_of {T = T} place octets.now ≡ Err fault) }
+{
+    let refusal = SheetRefusal::BadCall;
+    let [letter, rest @ ..] = octets else {
+        return Err(SheetFault { refusal, place });
+    };
+    match char::from(*letter) {
+        'Q' => request_record(place, octets),
+        letter => {
+            let Some(call) = plain_call(letter) else {
+                return Err(SheetFault { refusal, place });
+            };
+            let octets = &octets[..1];
+            Ok((
+                Part::Call {
+                    place,
+                    octets,
+                    call,
+                },
+                rest,
+            ))
+        }
+    }
+}
