@@ -1,8 +1,10 @@
 -- The refusals of a sheet, by number, and their printed line.
-use Rattle.std.specs.Prelude.{ℕ, List, ◌++◌, codes, decimal}
+use Rattle.std.specs.Prelude.{◌≡◌, ℕ, List, ◌++◌, Err, Result, codes, decimal}
 use Rattle.sheet.specs.declared.faults.SheetRefusal.{SheetRefusal}
 use Rattle.sheet.specs.declared.faults.SheetRefusal.TheVariants.{WrongSize, BadSetting, BadDistances, NoLoad, BadMark, BadCall}
 use Rattle.sheet.specs.declared.faults.SheetFault.{SheetFault}
+use Rattle.sheet.specs.declared.faults.ReadError.{ReadError}
+use Rattle.sheet.specs.declared.faults.ReadError.TheVariants.{Refused, NoMemory}
 
 -- the number of each refusal
 abbrev pub number_of : SheetRefusal → ℕ
@@ -20,3 +22,8 @@ fault_at refusal place = record { refusal = refusal; place = place }
 -- the printed line of a sheet that is turned down
 abbrev pub fault_text : SheetFault → List ℕ
 fault_text fault = codes "sheet " ++ (decimal (number_of fault.refusal) ++ (codes " at " ++ decimal fault.place))
+
+-- why a reader has no answer: the refusal that is said, or want of memory, which may come whatever is said
+abbrev pub Fails : {X : Type 0} → Result X SheetFault → ReadError → Type 0
+Fails said (Refused fault) = said ≡ Err fault
+Fails said NoMemory = Unit {0}

@@ -2,4 +2,4 @@ pub mod Faults
 pub mod Layouts
 pub mod Parts
 pub mod Records
-pub mod Lists
+pub mod Sections

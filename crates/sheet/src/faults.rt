@@ -1,9 +1,11 @@
 // Why a sheet is turned down, by fixed numbers, and where.
-ghost use Rattle.std.specs.Prelude.{Some};
+ghost use Rattle.std.specs.Prelude.{◌≡◌, Some};
 ghost use Rattle.std.proofs.Common.{rules};
 ghost use Rattle.sheet.specs.Faults.{number_of, fault_text};
+ghost use Rattle.sheet.specs.declared.faults.ReadError.TheVariants.{Refused, NoMemory};
 
 use loads::Refusal;
+use std::alloc::{AllocError, AllocFailed};
 use std::error::Error;
 use std::fmt;
 
@@ -53,3 +55,35 @@ impl fmt::Display for SheetFault {
 }
 
 impl Error for SheetFault {}
+
+// Why there is no sheet: it is turned down, or what it says found no memory.
+#[derive(Clone, Copy, Debug, PartialEq, Eq)]
+pub enum ReadError {
+    Refused(SheetFault),
+    NoMemory,
+}
+
+// This and the next two by hand, since of a derived `From` no contract says what it makes.
+impl From<SheetFault> for ReadError {
+    ghost from_gives = { λ fault r. r ≡ Refused fault };
+
+    fn from(fault: SheetFault) -> ReadError {
+        ReadError::Refused(fault)
+    }
+}
+
+impl From<AllocError> for ReadError {
+    ghost from_gives = { λ _ r. r ≡ NoMemory };
+
+    fn from(_error: AllocError) -> ReadError {
+        ReadError::NoMemory
+    }
+}
+
+impl<T: Drop> From<AllocFailed<T>> for ReadError {
+    ghost from_gives = { λ _ r. r ≡ NoMemory };
+
+    fn from(_refused: AllocFailed<T>) -> ReadError {
+        AllocError.into()
+    }
+}

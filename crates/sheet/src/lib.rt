@@ -4,10 +4,10 @@
 
 mod faults;
 mod layouts;
-mod lists;
 mod parts;
 mod records;
+mod sections;
 
-pub use faults::{SheetFault, SheetRefusal};
+pub use faults::{ReadError, SheetFault, SheetRefusal};
 pub use layouts::LoadKind;
 pub use parts::{Part, Way};
