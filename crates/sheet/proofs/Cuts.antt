@@ -69,7 +69,7 @@ module _ {T : Type 0} where
   record_cut kind section.Calls place (letter ∷ octets) part behind is = call_cut (letter == byte "Q") place letter octets part behind is
 
   -- records before records
-  before_before : (parts others : List (Found T)) (read : Result (List (Found T)) SheetFault) → before parts (before others read) ≡ before (parts ++ others) read
+  pub before_before : (parts others : List (Found T)) (read : Result (List (Found T)) SheetFault) → before parts (before others read) ≡ before (parts ++ others) read
   before_before parts others (Ok more) = ap Ok (sym (append_assoc parts others more))
   before_before parts others (Err fault) = refl
 

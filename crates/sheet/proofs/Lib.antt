@@ -1,1 +1,3 @@
+pub mod Bounds
 pub mod Cuts
+pub mod Joins

@@ -3,3 +3,4 @@ pub mod Layouts
 pub mod Parts
 pub mod Records
 pub mod Sections
+pub mod Sheets

@@ -1,8 +1,10 @@
 -- The records of a sheet as parts of it, and what a list of parts gives a run.
-use Rattle.std.specs.Prelude.{ℕ, List, [], ◌∷◌, ◌++◌}
+use Rattle.std.specs.Prelude.{ℕ, List, [], ◌∷◌, map}
+use Rattle.std.specs.List.{flat_map}
 use Rattle.channels.specs.declared.marks.Mark.{Mark}
 use Rattle.link.specs.declared.calls.Call.{Call}
 use Rattle.sheet.specs.declared.parts.Way.{Way}
+use Rattle.sheet.specs.declared.parts.Way.TheVariants.{ToHut, Back}
 use Rattle.sheet.specs.declared.parts.Part.{Part}
 use Rattle.sheet.specs.declared.parts.Part.TheVariants as part
 
@@ -24,3 +26,32 @@ module _ {T : Type 0} where
   seen (part.BookRecord place octets load) = record { place = place; octets = octets.now; meaning = a_load load }
   seen (part.Mark place octets way mark) = record { place = place; octets = octets.now; meaning = a_mark way mark }
   seen (part.Call place octets call) = record { place = place; octets = octets.now; meaning = a_call call }
+
+  -- what a meaning has: a load; a mark for frames of one way; a call
+  abbrev pub load_in : Meaning T → List T
+  load_in (a_load load) = load ∷ []
+  load_in (a_mark way mark) = []
+  load_in (a_call call) = []
+
+  abbrev pub mark_in : Way → Meaning T → List Mark
+  mark_in way (a_load load) = []
+  mark_in ToHut (a_mark ToHut mark) = mark ∷ []
+  mark_in ToHut (a_mark Back mark) = []
+  mark_in Back (a_mark ToHut mark) = []
+  mark_in Back (a_mark Back mark) = mark ∷ []
+  mark_in way (a_call call) = []
+
+  abbrev pub call_in : Meaning T → List Call
+  call_in (a_load load) = []
+  call_in (a_mark way mark) = []
+  call_in (a_call call) = call ∷ []
+
+  -- and what the parts of a sheet have, in order: the book's loads, the marks of one way, the calls
+  abbrev pub loads_in : List (Found T) → List T
+  loads_in parts = flat_map (λ part. load_in part.meaning) parts
+
+  abbrev pub marks_in : Way → List (Found T) → List Mark
+  marks_in way parts = flat_map (λ part. mark_in way part.meaning) parts
+
+  abbrev pub calls_in : List (Found T) → List Call
+  calls_in parts = flat_map (λ part. call_in part.meaning) parts

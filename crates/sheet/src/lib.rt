@@ -7,7 +7,9 @@ mod layouts;
 mod parts;
 mod records;
 mod sections;
+mod sheets;
 
 pub use faults::{ReadError, SheetFault, SheetRefusal};
 pub use layouts::LoadKind;
 pub use parts::{Part, Way};
+pub use sheets::Sheet;

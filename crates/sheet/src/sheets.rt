@@ -1,0 +1,134 @@
+// A sheet: its parts in order, and what they give a run.
+ghost use Rattle.std.specs.Prelude.{◌≡◌, Ok, Err, MatchResult, IfOk, length, map, take, vec_items};
+ghost use Rattle.sheet.specs.Faults.{Fails};
+ghost use Rattle.sheet.specs.Layouts.{layout_reads};
+ghost use Rattle.sheet.specs.Parts.{seen, loads_in, calls_in};
+ghost use Rattle.sheet.specs.Sheets.{parts_read, sheet_read};
+
+use crate::faults::ReadError;
+use crate::layouts::Layout;
+use crate::parts::{Part, Way};
+use crate::sections::{Section, read_section};
+use link::Call;
+use loads::{Book, Load};
+use std::alloc::{AllocError, Global};
+use std::marker::Model;
+
+// A sheet of loads of one kind. Its parts, and the marks, borrow its octets.
+#[derive(Drop)]
+pub struct Sheet<'s, T> {
+    repeats: u8,
+    parts: Vec<Part<'s, T>>,
+    book: Book<T>,
+    to_hut: &'s [u8],
+    back: &'s [u8],
+    calls: Vec<Call>,
+}
+
+// Clauses see marks in place of octets.
+impl<'s, T> Model for Sheet<'s, T> {
+    ghost use Rattle.std.specs.Prelude.{◌≡◌, ◌≤◌, map, true, vec_items};
+    ghost use Rattle.channels.specs.Marks.{good_marks, marks_of};
+    ghost use Rattle.sheet.specs.Parts.{seen};
+    ghost use Rattle.sheet.specs.Sheets.{SheetParts};
+
+    ghost Value = { SheetParts T };
+
+    ghost view = { λ sheet. record { repeats = sheet.repeats; parts = map seen (vec_items sheet.parts); book = sheet.book; to_hut = marks_of sheet.to_hut.now; back = marks_of sheet.back.now; calls = vec_items sheet.calls } };
+
+    ghost invariant = { λ sheet. (good_marks sheet.to_hut.now ≡ true) × (good_marks sheet.back.now ≡ true) × (sheet.repeats ≤ 10) };
+}
+
+// The calls among parts.
+fn calls_among<'s, T>(heap: Global, parts: &[Part<'s, T>]) -> Result<Vec<Call>, AllocError>
+    ensures made { IfOk result (λ calls. vec_items calls ≡ calls_in (map seen parts.now)) }
+{
+    let mut calls = Vec::new(heap);
+    for part in parts {
+        if let Part::Call { call, .. } = part {
+            calls.push(*call)?;
+        }
+    }
+    Ok(calls)
+}
+
+// How many loads are among parts.
+fn count_loads<'s, T>(parts: &[Part<'s, T>]) -> usize
+    ensures answer { result ≡ length (loads_in (map seen parts.now)) }
+{
+    let mut count = 0;
+    for part in parts {
+        if let Part::BookRecord { .. } = part {
+            count += 1;
+        }
+    }
+    count
+}
+
+// The parts of a sheet, section by section. Open: whether there is memory for them.
+fn read_parts<'s, T: Load>(
+    heap: Global,
+    layout: &Layout,
+    octets: &'s [u8],
+) -> Result<Vec<Part<'s, T>>, ReadError>
+    requires { layout_reads octets.now ≡ Ok layout.now }
+    ensures cases { MatchResult result (λ parts. parts_read T.Load layout.now octets.now ≡ Ok (map seen (vec_items parts))) (λ error. Fails (parts_read T.Load layout.now octets.now) error) }
+{
+    let Layout {
+        to_hut,
+        back,
+        calls,
+        trailer,
+        ..
+    } = *layout;
+    let mut parts = Vec::new(heap);
+    read_section(&mut parts, Section::Book, 0, &octets[..to_hut])?;
+    read_section(
+        &mut parts,
+        Section::Marks(Way::ToHut),
+        to_hut,
+        &octets[to_hut..back],
+    )?;
+    read_section(
+        &mut parts,
+        Section::Marks(Way::Back),
+        back,
+        &octets[back..calls],
+    )?;
+    read_section(&mut parts, Section::Calls, calls, &octets[calls..trailer])?;
+    Ok(parts)
+}
+
+impl<'s, T: Load> Sheet<'s, T> {
+    // The sheet of a layout. Open: whether there is memory for it.
+    #[tactic(auto, using(crate::proofs::Bounds::layout_bounds))]
+    pub(crate) fn read(
+        heap: Global,
+        layout: &Layout,
+        octets: &'s [u8],
+    ) -> Result<Sheet<'s, T>, ReadError>
+        requires { layout_reads octets.now ≡ Ok layout.now }
+        ensures cases { MatchResult result (λ sheet. sheet_read T.Load layout.now octets.now ≡ Ok sheet) (λ error. Fails (sheet_read T.Load layout.now octets.now) error) }
+    {
+        let Layout {
+            repeats,
+            to_hut,
+            back,
+            calls,
+            ..
+        } = *layout;
+        let parts = read_parts(heap, layout, octets)?;
+        let records = count_loads(&parts);
+        let Ok(book) = Book::read(heap, records, &octets[..to_hut]) else {
+            return Err(ReadError::NoMemory);
+        };
+        Ok(Sheet {
+            repeats,
+            book,
+            to_hut: &octets[to_hut..back],
+            back: &octets[back..calls],
+            calls: calls_among(heap, &parts)?,
+            parts,
+        })
+    }
+}
