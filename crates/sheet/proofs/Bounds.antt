@@ -1,6 +1,5 @@
 -- The bounds of a layout that was read.
-use Rattle.std.proofs.Common.{◌≡◌, ℕ, ◌+◌, ◌≤◌, Bool, true, false, cond, List, length, Ok, Err, Result, Some, None, Option, rules, arith, tests}
-use Rattle.sheet.specs.declared.layouts.LoadKind.{LoadKind}
+use Rattle.std.proofs.Common.{◌≡◌, ℕ, ◌+◌, ◌≤◌, List, length, Ok, rules, tests}
 use Rattle.sheet.specs.declared.layouts.Layout.{Layout}
 use Rattle.sheet.specs.Layouts.{layout_reads}
 

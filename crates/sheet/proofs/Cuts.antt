@@ -1,5 +1,5 @@
 -- How records are cut off the front of a section's octets.
-use Rattle.std.proofs.Common.{◌≡◌, ℕ, zero, suc, ◌+◌, ◌-◌, ◌<◌, ◌≢◌, List, [], ◌∷◌, ◌++◌, length, map, Ok, Err, Result, Some, None, Option, true, false, Bool, nat_le, ◌==◌, take, drop, cond, refl, ap, sym, ◌∙◌, rules, arith, tests}
+use Rattle.std.proofs.Common.{◌≡◌, ℕ, zero, suc, ◌+◌, ◌-◌, ◌<◌, ◌≢◌, List, [], ◌∷◌, ◌++◌, length, Ok, Err, Result, Some, None, Option, true, false, Bool, nat_le, ◌==◌, take, drop, cond, refl, ap, sym, ◌∙◌, rules, arith}
 use Rattle.std.proofs.lemmas.List.{take-append-drop, append_assoc}
 use Rattle.std.specs.Str.{byte}
 use Rattle.loads.specs.declared.faults.Fault.{Fault}
@@ -17,7 +17,7 @@ use Rattle.sheet.specs.declared.sections.Section.{Section}
 use Rattle.sheet.specs.declared.sections.Section.TheVariants as section
 use Rattle.sheet.specs.Faults.{fault_at}
 use Rattle.sheet.specs.Parts.{Found, a_call}
-use Rattle.sheet.specs.Records.{Front, front_of, loaded, marked, lettered, plain_call, book_record, mark_record, request_record, call_record}
+use Rattle.sheet.specs.Records.{front_of, loaded, marked, lettered, plain_call, request_record}
 use Rattle.sheet.specs.Sections.{refusal_of, record_of, before, records_read}
 
 module _ {T : Type 0} where

@@ -1,5 +1,5 @@
 -- Sections one behind the other.
-use Rattle.std.proofs.Common.{◌≡◌, ℕ, List, [], ◌++◌, Ok, Err, Result, refl, ap, sym, ◌∙◌, rules, take, slice_range}
+use Rattle.std.proofs.Common.{◌≡◌, ℕ, List, [], Ok, Err, Result, refl, ap, ◌∙◌, rules, take, slice_range}
 use Rattle.loads.specs.declared.kinds.Load.{Ghosts}
 use Rattle.sheet.specs.declared.faults.SheetFault.{SheetFault}
 use Rattle.sheet.specs.declared.faults.ReadError.{ReadError}

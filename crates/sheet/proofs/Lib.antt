@@ -1,3 +1,6 @@
 pub mod Bounds
+pub mod Chains
+pub mod Contents
 pub mod Cuts
 pub mod Joins
+pub mod Wholes

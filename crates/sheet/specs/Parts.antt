@@ -1,5 +1,5 @@
 -- The records of a sheet as parts of it, and what a list of parts gives a run.
-use Rattle.std.specs.Prelude.{ℕ, List, [], ◌∷◌, map}
+use Rattle.std.specs.Prelude.{ℕ, List, [], ◌∷◌}
 use Rattle.std.specs.List.{flat_map}
 use Rattle.channels.specs.declared.marks.Mark.{Mark}
 use Rattle.link.specs.declared.calls.Call.{Call}

@@ -2,8 +2,6 @@
 use Rattle.std.specs.Prelude.{◌≡◌, ℕ, ◌+◌, List, [], ◌∷◌, ◌++◌, length, take, Ok, Err, Result, slice_range}
 use Rattle.std.specs.List.{flat_map}
 use Rattle.loads.specs.declared.kinds.Load.{Ghosts}
-use Rattle.loads.specs.declared.pieces.Piece as pieces
-use Rattle.loads.specs.declared.readings.Reading as readings
 use Rattle.channels.specs.declared.marks.Mark.{Mark}
 use Rattle.link.specs.declared.calls.Call.{Call}
 use Rattle.sheet.specs.declared.faults.SheetFault.{SheetFault}

@@ -1,5 +1,5 @@
 // The trailer of a sheet: where its lists are, which kind of load it has, and how many repeats.
-ghost use Rattle.std.specs.Prelude.{◌≡◌, ◌+◌, ◌*◌, ◌<◌, length};
+ghost use Rattle.std.specs.Prelude.{◌≡◌, ◌+◌, ◌*◌, ◌<◌, length, take, Ok, slice_range};
 ghost use Rattle.loads.specs.Octets.{field};
 ghost use Rattle.sheet.specs.Layouts.{layout_reads, load_kind, distance, distances_fit};
 
@@ -61,7 +61,33 @@ fn distances_fit(place: usize, trailer: &[u8; TRAILER_SIZE]) -> bool
         && distance(trailer, 3) <= distance(trailer, 2)
 }
 
+// The four sections of a sheet, as octets.
+#[derive(Drop)]
+pub(crate) struct Lists<'s> {
+    pub(crate) book: &'s [u8],
+    pub(crate) to_hut: &'s [u8],
+    pub(crate) back: &'s [u8],
+    pub(crate) calls: &'s [u8],
+}
+
 impl Layout {
+    // The sections of the sheet that the layout was read from.
+    #[tactic(auto, using(crate::proofs::Bounds::layout_bounds))]
+    pub(crate) fn lists<'s>(&self, octets: &'s [u8]) -> Lists<'s>
+        requires { layout_reads octets.now ≡ Ok self.now }
+        ensures book { result.book.now ≡ take self.now.to_hut octets.now }
+        ensures to_hut { result.to_hut.now ≡ slice_range octets.now self.now.to_hut self.now.back }
+        ensures back { result.back.now ≡ slice_range octets.now self.now.back self.now.calls }
+        ensures calls { result.calls.now ≡ slice_range octets.now self.now.calls self.now.trailer }
+    {
+        Lists {
+            book: &octets[..self.to_hut],
+            to_hut: &octets[self.to_hut..self.back],
+            back: &octets[self.back..self.calls],
+            calls: &octets[self.calls..self.trailer],
+        }
+    }
+
     // What the trailer of a sheet says, or why the sheet is turned down for it.
     pub(crate) fn read(octets: &[u8]) -> Result<Layout, SheetFault>
         ensures answer { result ≡ layout_reads octets.now }

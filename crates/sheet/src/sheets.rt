@@ -74,34 +74,27 @@ fn read_parts<'s, T: Load>(
     requires { layout_reads octets.now ≡ Ok layout.now }
     ensures cases { MatchResult result (λ parts. parts_read T.Load layout.now octets.now ≡ Ok (map seen (vec_items parts))) (λ error. Fails (parts_read T.Load layout.now octets.now) error) }
 {
-    let Layout {
-        to_hut,
-        back,
-        calls,
-        trailer,
-        ..
-    } = *layout;
+    let lists = layout.lists(octets);
     let mut parts = Vec::new(heap);
-    read_section(&mut parts, Section::Book, 0, &octets[..to_hut])?;
+    read_section(&mut parts, Section::Book, 0, lists.book)?;
     read_section(
         &mut parts,
         Section::Marks(Way::ToHut),
-        to_hut,
-        &octets[to_hut..back],
+        layout.to_hut,
+        lists.to_hut,
     )?;
     read_section(
         &mut parts,
         Section::Marks(Way::Back),
-        back,
-        &octets[back..calls],
+        layout.back,
+        lists.back,
     )?;
-    read_section(&mut parts, Section::Calls, calls, &octets[calls..trailer])?;
+    read_section(&mut parts, Section::Calls, layout.calls, lists.calls)?;
     Ok(parts)
 }
 
 impl<'s, T: Load> Sheet<'s, T> {
     // The sheet of a layout. Open: whether there is memory for it.
-    #[tactic(auto, using(crate::proofs::Bounds::layout_bounds))]
     pub(crate) fn read(
         heap: Global,
         layout: &Layout,
@@ -110,25 +103,19 @@ impl<'s, T: Load> Sheet<'s, T> {
         requires { layout_reads octets.now ≡ Ok layout.now }
         ensures cases { MatchResult result (λ sheet. sheet_read T.Load layout.now octets.now ≡ Ok sheet) (λ error. Fails (sheet_read T.Load layout.now octets.now) error) }
     {
-        let Layout {
-            repeats,
-            to_hut,
-            back,
-            calls,
-            ..
-        } = *layout;
+        let lists = layout.lists(octets);
         let parts = read_parts(heap, layout, octets)?;
-        let records = count_loads(&parts);
-        let Ok(book) = Book::read(heap, records, &octets[..to_hut]) else {
+        let Ok(book) = Book::read(heap, count_loads(&parts), lists.book) else {
             return Err(ReadError::NoMemory);
         };
+        let calls = calls_among(heap, &parts)?;
         Ok(Sheet {
-            repeats,
-            book,
-            to_hut: &octets[to_hut..back],
-            back: &octets[back..calls],
-            calls: calls_among(heap, &parts)?,
+            repeats: layout.repeats,
             parts,
+            book,
+            to_hut: lists.to_hut,
+            back: lists.back,
+            calls,
         })
     }
 }
