@@ -1,3 +1,4 @@
+pub mod AnySheets
 pub mod Faults
 pub mod Layouts
 pub mod Parts

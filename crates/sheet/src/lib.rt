@@ -2,6 +2,7 @@
 
 #![tactic(auto)]
 
+mod anysheets;
 mod faults;
 mod layouts;
 mod parts;
@@ -9,6 +10,7 @@ mod records;
 mod sections;
 mod sheets;
 
+pub use anysheets::AnySheet;
 pub use faults::{ReadError, SheetFault, SheetRefusal};
 pub use layouts::LoadKind;
 pub use parts::{Part, Way};

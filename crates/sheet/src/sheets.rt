@@ -1,9 +1,10 @@
 // A sheet: its parts in order, and what they give a run.
-ghost use Rattle.std.specs.Prelude.{◌≡◌, Ok, Err, MatchResult, IfOk, length, map, take, vec_items};
+ghost use Rattle.std.specs.Prelude.{◌≡◌, ◌≤◌, Ok, Err, Some, MatchResult, IfOk, length, map, take, vec_items};
+ghost use Rattle.channels.specs.Marks.{marks_read};
 ghost use Rattle.sheet.specs.Faults.{Fails};
 ghost use Rattle.sheet.specs.Layouts.{layout_reads};
 ghost use Rattle.sheet.specs.Parts.{seen, loads_in, calls_in};
-ghost use Rattle.sheet.specs.Sheets.{parts_read, sheet_read};
+ghost use Rattle.sheet.specs.Sheets.{parts_read, sheet_read, Covers};
 
 use crate::faults::ReadError;
 use crate::layouts::Layout;
@@ -37,6 +38,51 @@ impl<'s, T> Model for Sheet<'s, T> {
     ghost view = { λ sheet. record { repeats = sheet.repeats; parts = map seen (vec_items sheet.parts); book = sheet.book; to_hut = marks_of sheet.to_hut.now; back = marks_of sheet.back.now; calls = vec_items sheet.calls } };
 
     ghost invariant = { λ sheet. (good_marks sheet.to_hut.now ≡ true) × (good_marks sheet.back.now ≡ true) × (sheet.repeats ≤ 10) };
+}
+
+impl<'s, T> Sheet<'s, T> {
+    // How often a load may be sent again.
+    pub fn repeats(&self) -> u8
+        ensures answer { result ≡ self.now.repeats }
+        ensures few { result ≤ 10 }
+    {
+        self.repeats
+    }
+
+    // The records, in the order of the sheet.
+    pub fn parts(&self) -> &[Part<'s, T>]
+        ensures answer { map seen result.now ≡ self.now.parts }
+    {
+        &self.parts
+    }
+
+    // The loads that messages are taken from.
+    pub fn book(&self) -> &Book<T>
+        ensures answer { result.now ≡ self.now.book }
+    {
+        &self.book
+    }
+
+    // The marks of K, as a rain takes them.
+    pub fn to_hut(&self) -> &'s [u8]
+        ensures answer { marks_read result.now ≡ Some self.now.to_hut }
+    {
+        self.to_hut
+    }
+
+    // The marks of L, as a rain takes them.
+    pub fn back(&self) -> &'s [u8]
+        ensures answer { marks_read result.now ≡ Some self.now.back }
+    {
+        self.back
+    }
+
+    // The calls, in order.
+    pub fn calls(&self) -> &[Call]
+        ensures answer { result.now ≡ self.now.calls }
+    {
+        &self.calls
+    }
 }
 
 // The calls among parts.
@@ -102,6 +148,7 @@ impl<'s, T: Load> Sheet<'s, T> {
     ) -> Result<Sheet<'s, T>, ReadError>
         requires { layout_reads octets.now ≡ Ok layout.now }
         ensures cases { MatchResult result (λ sheet. sheet_read T.Load layout.now octets.now ≡ Ok sheet) (λ error. Fails (sheet_read T.Load layout.now octets.now) error) }
+        ensures law { IfOk result (λ sheet. Covers sheet.parts octets.now) }
     {
         let lists = layout.lists(octets);
         let parts = read_parts(heap, layout, octets)?;

@@ -1,6 +1,6 @@
 use Rattle.std.proofs.Common.{◌∙◌}
 use Rattle.sheet.proofs.Bounds.{layout_bounds}
-use Rattle.sheet.proofs.Wholes.{sheet_gives, sheet_is}
+use Rattle.sheet.proofs.Wholes.{sheet_covers, sheet_gives, sheet_is}
 use Rattle.sheet.proofs.sheets.Sheet.read.Goals as goal
 
 pub invariant_of-result : goal.invariant_of-result
@@ -16,4 +16,7 @@ returns g c =
     let book = rw (c.count_loads.ensures.answer, c.deref.ensures.value, c.lists-lists.ensures.book) at c.in-Ok.ensures.cases in
     let to_hut = rw (← c.lists-lists.ensures.to_hut) at given.to_hut in
     let back = rw (← c.lists-lists.ensures.back) at given.back in
-    record { cases = sheet_is g.T.Load c.args.layout.now c.args.octets.now _ _ _ _ _ read (book ∙ given.book) to_hut back (rw c.deref-2.ensures.value at c.in_ok-calls.ensures.made) }
+    record {
+      cases = sheet_is g.T.Load c.args.layout.now c.args.octets.now _ _ _ _ _ read (book ∙ given.book) to_hut back (rw c.deref-2.ensures.value at c.in_ok-calls.ensures.made);
+      law = sheet_covers g.T.Load c.args.layout.now c.args.octets.now _ c.requires read;
+    }

@@ -1,0 +1,31 @@
+// A sheet of whichever kind of load its trailer names.
+ghost use Rattle.std.specs.Prelude.{◌≡◌, Ok, MatchResult, IfOk};
+ghost use Rattle.sheet.specs.AnySheets.{sheet_reads, Covered};
+ghost use Rattle.sheet.specs.Faults.{Fails};
+
+use crate::faults::ReadError;
+use crate::layouts::{Layout, LoadKind};
+use crate::sheets::Sheet;
+use loads::{Piece, Reading};
+use std::alloc::Global;
+
+// A sheet, by the kind of its loads.
+#[derive(Drop)]
+pub enum AnySheet<'s> {
+    Readings(Sheet<'s, Reading>),
+    Pieces(Sheet<'s, Piece>),
+}
+
+impl<'s> AnySheet<'s> {
+    // The sheet that octets are, or why they are none. Open: whether there is memory for it.
+    pub fn read(heap: Global, octets: &'s [u8]) -> Result<AnySheet<'s>, ReadError>
+        ensures cases { MatchResult result (λ sheet. sheet_reads octets.now ≡ Ok sheet) (λ error. Fails (sheet_reads octets.now) error) }
+        ensures law { IfOk result (λ sheet. Covered sheet octets.now) }
+    {
+        let layout = Layout::read(octets)?;
+        match layout.kind {
+            LoadKind::Reading => Ok(AnySheet::Readings(Sheet::read(heap, &layout, octets)?)),
+            LoadKind::Piece => Ok(AnySheet::Pieces(Sheet::read(heap, &layout, octets)?)),
+        }
+    }
+}
