@@ -1,0 +1,2 @@
+pub mod Decided
+pub mod Marked

@@ -1,0 +1,83 @@
+-- What a rain over a channel that neither delays nor loses does, by its mark.
+use Rattle.std.proofs.Common.{◌≡◌, Bool, true, false, List, [], ◌∷◌, refl, ap, ◌∙◌, rules}
+use Rattle.loads.specs.declared.frames.Frame.{Frame}
+use Rattle.channel.specs.declared.polls.Poll.{Poll}
+use Rattle.channel.specs.declared.polls.Poll.TheVariants as answer
+use Rattle.channel.specs.declared.rows.Event.{Event}
+use Rattle.channel.specs.declared.rows.Event.TheVariants as row
+use Rattle.channel.specs.Rows.{Row}
+use Rattle.channel.specs.Rules.{held}
+use Rattle.channels.specs.declared.marks.Mark.{Mark}
+use Rattle.channels.specs.declared.marks.Mark.TheVariants.{Pass, Lose, Delay}
+use Rattle.channels.specs.Rains.{RainState, RainPolls, RainPuts, rains}
+use Rattle.channels.specs.Singles.{singles}
+use Rattle.link.specs.declared.words.Heard.{Heard}
+use Rattle.link.specs.declared.words.Heard.TheVariants.{Still, Arrived, Lost}
+use Rattle.link.specs.Doings.{polls}
+use Rattle.sheetrun.specs.Weathers.{Weather, heard_of, taken, delayed_once, polled, weather_of}
+
+-- the marks after a put, by whether a frame waits
+abbrev pub after_put : Bool → Weather → Weather
+after_put true weather = weather
+after_put false weather = taken weather
+
+-- the marks after a poll, by whether a frame waits
+abbrev pub after_poll : Bool → Weather → Weather
+after_poll true weather = polled weather
+after_poll false weather = weather
+
+-- the marks after what a call does to a channel: at most one put or poll
+abbrev pub after_call : {T : Type 0} → Bool → List (Event T) → Weather → Weather
+after_call holding [] weather = weather
+after_call holding (row.Put frame answer ∷ events) weather = after_put holding weather
+after_call holding (row.Poll answer ∷ events) weather = after_poll holding weather
+
+-- the answer of a poll that hears this of the oldest frame
+abbrev pub answer_of : {T : Type 0} → Heard → Frame T → Poll T
+answer_of Still oldest = answer.Still
+answer_of Arrived oldest = answer.Arrived oldest
+answer_of Lost oldest = answer.Lost
+
+-- a poll where a frame waits
+polls_some : {T : Type 0} (heard : Heard) (oldest : Frame T) (others : List (Frame T)) → polls heard (oldest ∷ others) ≡ row.Poll (answer_of heard oldest) ∷ []
+polls_some Still oldest others = refl
+polls_some Arrived oldest others = refl
+polls_some Lost oldest others = refl
+
+module _ {T C : Type 0} (waits : C → List (Frame T)) where
+  polled_by : (mark : Mark) (heard : Heard) (oldest : Frame T) (others : List (Frame T)) (before after : RainState C)
+      → waits before.below ≡ oldest ∷ others → RainPolls (singles waits) mark true before (answer_of heard oldest) after
+      → (heard ≡ heard_of mark) × (weather_of after ≡ record { mark = delayed_once mark; ahead = before.ahead })
+  polled_by Pass Still oldest others before after waiting ((allowed, leaves, says), left) = search rules
+  polled_by Pass Arrived oldest others before after waiting (polls, left) = (refl, ap weather_of left)
+  polled_by Pass Lost oldest others before after waiting ((allowed, leaves, says), left) = search rules
+  polled_by Lose Still oldest others before after waiting ((heard, (allowed, leaves, says), lost), left) = search rules
+  polled_by Lose Arrived oldest others before after waiting ((heard, (allowed, leaves, says), lost), left) = search rules
+  polled_by Lose Lost oldest others before after waiting (polls, left) = (refl, ap weather_of left)
+  polled_by Delay Still oldest others before after waiting (says, left) = (refl, ap weather_of left)
+  polled_by Delay Arrived oldest others before after waiting (says, left) = search rules
+  polled_by Delay Lost oldest others before after waiting (says, left) = search rules
+
+  -- nothing waits: the poll answers EMPTY, and the marks stay
+  polled_empty : (mark : Mark) (before after : RainState C) → before.mark ≡ mark → RainPolls (singles waits) mark false before answer.Empty after
+      → weather_of after ≡ weather_of before
+  polled_empty Pass before after is (polls, left) = ap weather_of left ∙ rw is refl
+  polled_empty Lose before after is (polls, left) = ap weather_of left ∙ rw is refl
+  polled_empty Delay before after is (says, left) = ap weather_of left
+
+  -- a put: refused where a frame waits
+  pub put_marks : (holding : Bool) (frame : Frame T) (before after : RainState C) → RainPuts (singles waits) holding before frame after
+      → weather_of after ≡ after_put holding (weather_of before)
+  put_marks true frame before after (puts, left) = ap weather_of left
+  put_marks false frame before after (puts, left) = ap weather_of left
+
+  -- what a call of a link does to a rain: the mark decides what is heard, if a frame waits
+  pub polls_marked : (waiting : List (Frame T)) (heard : Heard) (before after : RainState C) → waits before.below ≡ waiting
+      → Row (rains (singles waits)) before (polls heard waiting) after
+      → (held waiting ≡ true → heard ≡ heard_of before.mark) × (weather_of after ≡ after_poll (held waiting) (weather_of before))
+  polls_marked [] heard before after none (between, step, row) =
+      ((λ some. search rules), ap weather_of row ∙ polled_empty before.mark before between refl (rw none at step.2))
+  polls_marked (oldest ∷ others) heard before after some row =
+      let (between, step, row) = rw (polls_some heard oldest others) at row in
+      let told = polled_by before.mark heard oldest others before between some (rw some at step.2) in
+      ((λ _. told.0), ap weather_of row ∙ told.1)
