@@ -95,7 +95,7 @@ reply_decided waits (Some n) (Ok place) (Some frame) before after row = puts_dec
 send_accepted : {T : Type 0} (repeats : Option ℕ) (place : Result SenderPlace LinkRefusal) (load : Option T) (waiting : List (Frame T)) (book : List T) (link : LinkState T) (weather : Weather)
     → first_load book link.sender.rest ≡ load
     → after_call (held waiting) (if_joined repeats (send_puts_at place load link.sender waiting)) weather
-      ≡ if_accepted taken (shown (λ _. Done) (joined_at repeats link (λ _. by_sender_to_hut link (send_at place book link.sender waiting)))).0 weather
+    ≡ if_accepted taken (shown (λ _. Done) (joined_at repeats link (λ _. by_sender_to_hut link (send_at place book link.sender waiting)))).0 weather
 send_accepted None place load waiting book link weather has = refl
 send_accepted (Some n) (Err why) load waiting book link weather has = refl
 send_accepted (Some n) (Ok place) None waiting book link weather has = rw has refl
@@ -104,7 +104,7 @@ send_accepted (Some n) (Ok place) (Some load) (oldest ∷ others) book link weat
 
 reply_accepted : {T : Type 0} (repeats : Option ℕ) (place : Result HutPlace LinkRefusal) (frame : Option (Frame T)) (waiting : List (Frame EmptyLoad)) (link : LinkState T) (weather : Weather)
     → after_call (held waiting) (if_joined repeats (reply_puts_at place frame waiting)) weather
-      ≡ if_accepted taken (shown {T = T} (λ _. Done) (joined_at repeats link (λ _. by_hut_back link (reply_frame place frame link.hut waiting)))).0 weather
+    ≡ if_accepted taken (shown {T = T} (λ _. Done) (joined_at repeats link (λ _. by_hut_back link (reply_frame place frame link.hut waiting)))).0 weather
 reply_accepted None place frame waiting link weather = refl
 reply_accepted (Some n) (Err why) frame waiting link weather = refl
 reply_accepted (Some n) (Ok place) None waiting link weather = refl
@@ -154,17 +154,17 @@ module _ {T C D : Type 0} (to_hut : C → List (Frame T)) (back : D → List (Fr
       let link = plain k l before in
       let weather = weather_of before.to_hut in
       let marks =
-          send_decided to_hut before.repeats _ _ before.sender before.to_hut after.to_hut one
-          ∙ send_accepted before.repeats _ _ (to_hut before.to_hut.below) book link weather refl
-          ∙ ap (λ made. if_accepted taken made.0 weather) (sym says) in
+      send_decided to_hut before.repeats _ _ before.sender before.to_hut after.to_hut one
+      ∙ send_accepted before.repeats _ _ (to_hut before.to_hut.below) book link weather refl
+      ∙ ap (λ made. if_accepted taken made.0 weather) (sym says) in
       together call.Send answer before after Still refl says marks (ap weather_of other)
   decided call.Reply answer before after (says, one, other) =
       let link = plain k l before in
       let weather = weather_of before.back in
       let marks =
-          reply_decided back before.repeats _ _ before.back after.back other
-          ∙ reply_accepted before.repeats _ _ (back before.back.below) link weather
-          ∙ ap (λ made. if_accepted taken made.0 weather) (sym says) in
+      reply_decided back before.repeats _ _ before.back after.back other
+      ∙ reply_accepted before.repeats _ _ (back before.back.below) link weather
+      ∙ ap (λ made. if_accepted taken made.0 weather) (sym says) in
       together call.Reply answer before after Still refl says (ap weather_of one) marks
   decided call.Carry answer before after (says, one, other) =
       let heard = choice answer in
@@ -174,9 +174,9 @@ module _ {T C D : Type 0} (to_hut : C → List (Frame T)) (back : D → List (Fr
       let same = carry_alike before.repeats (to_hut before.to_hut.below) heard mark link refl refl (heard_decided to_hut before.repeats heard before.to_hut after.to_hut one) in
       let made = says ∙ ap (λ outcome. shown Polled outcome) same in
       let marks =
-          polls_decided to_hut before.repeats heard before.to_hut after.to_hut one
-          ∙ carry_accepted before.repeats mark (to_hut before.to_hut.below) link weather refl refl
-          ∙ ap (λ made. if_accepted polled made.0 weather) (sym made) in
+      polls_decided to_hut before.repeats heard before.to_hut after.to_hut one
+      ∙ carry_accepted before.repeats mark (to_hut before.to_hut.below) link weather refl refl
+      ∙ ap (λ made. if_accepted polled made.0 weather) (sym made) in
       together call.Carry answer before after mark refl made marks (ap weather_of other)
   decided call.Return answer before after (says, one, other) =
       let heard = choice answer in
@@ -186,9 +186,9 @@ module _ {T C D : Type 0} (to_hut : C → List (Frame T)) (back : D → List (Fr
       let same = return_alike before.repeats (back before.back.below) heard mark link refl refl (heard_decided back before.repeats heard before.back after.back other) in
       let made = says ∙ ap (λ outcome. shown Polled outcome) same in
       let marks =
-          polls_decided back before.repeats heard before.back after.back other
-          ∙ return_accepted before.repeats mark (back before.back.below) link weather refl refl
-          ∙ ap (λ made. if_accepted polled made.0 weather) (sym made) in
+      polls_decided back before.repeats heard before.back after.back other
+      ∙ return_accepted before.repeats mark (back before.back.below) link weather refl refl
+      ∙ ap (λ made. if_accepted polled made.0 weather) (sym made) in
       together call.Return answer before after mark refl made (ap weather_of one) marks
   decided call.Tell answer before after (says, one, other) = together call.Tell answer before after Still refl says (ap weather_of one) (ap weather_of other)
   decided call.Retry answer before after (says, one, other) = together call.Retry answer before after Still refl says (ap weather_of one) (ap weather_of other)

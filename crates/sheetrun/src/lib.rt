@@ -2,6 +2,8 @@
 
 #![tactic(auto)]
 
+mod prints;
 mod runs;
 
-pub use runs::run_by_marks;
+pub use prints::sheet_lines;
+pub use runs::{run_by_marks, sheet_events};

@@ -1,16 +1,23 @@
-// A run on a link over two rains, whose marks decide what is answered.
-ghost use Rattle.std.specs.Prelude.{◌≡◌, ◌<◌, length, take};
+// Runs on a link over two rains, whose marks decide what is answered.
+ghost use Rattle.std.specs.Prelude.{◌≡◌, List, [], length, take, IfOk, vec_items};
+ghost use Rattle.link.specs.Histories.{Reached, Lawful};
 ghost use Rattle.link.specs.Runs.{run_answer, run_count, written, behind};
+ghost use Rattle.sheetrun.specs.Prints.{starting, events_of, TruthfulRun};
 ghost use Rattle.sheetrun.specs.Weathers.{rained, drives};
 
 use channels::{Rain, Store, Wire};
-use link::{Call, Event, Link, LinkRefusal};
+use link::{Answer, Call, Event, Link, LinkRefusal};
 use loads::{Book, EmptyLoad, Load};
+use sheet::Sheet;
+use std::alloc::{AllocError, Global};
 
-// Makes calls in order on a link whose marks decide what becomes of each frame, and writes each with its answer to the
-// front of the log.
+// A link over a wire to the hut and a store back, each under a rain.
+type RainedLink<'m, T> = Link<T, Rain<'m, Wire<T>>, Rain<'m, Store<EmptyLoad>>>;
+
+// Makes calls in order, and writes each with its answer to the front of the log, as `Link::run`. The marks decide what
+// becomes of each frame, so nothing of it is open.
 pub fn run_by_marks<'m, T: Load>(
-    link: &mut Link<T, Rain<'m, Wire<T>>, Rain<'m, Store<EmptyLoad>>>,
+    link: &mut RainedLink<'m, T>,
     book: &Book<T>,
     calls: &[Call],
     log: &mut [Event<T>],
@@ -18,6 +25,52 @@ pub fn run_by_marks<'m, T: Load>(
     ensures answer { result ≡ run_answer (length calls.now) (length log.old) }
     ensures after { (written calls.now log.old log.new, rained T.Load link.new) ≡ drives book.now (take (run_count (length calls.now) (length log.old)) calls.now) (rained T.Load link.old) }
     ensures later { behind calls.now log.old log.new ≡ behind calls.now log.old log.old }
+    ensures law { Lawful book.now (rained T.Load link.old).link (written calls.now log.old log.new) (rained T.Load link.new).link }
 {
     link.run(book, calls, log)
+}
+
+// The same with a log that is as long as the calls.
+fn run_whole<'m, T: Load>(
+    link: &mut RainedLink<'m, T>,
+    book: &Book<T>,
+    calls: &[Call],
+    log: &mut [Event<T>],
+)
+    requires { length calls.now ≡ length log.old }
+    ensures after { (log.new, rained T.Load link.new) ≡ drives book.now calls.now (rained T.Load link.old) }
+    ensures law { Lawful book.now (rained T.Load link.old).link log.new (rained T.Load link.new).link }
+{
+    run_by_marks(link, book, calls, log).unwrap();
+}
+
+// A link over the marks of a sheet, joined with its repeats.
+fn joined_link<'s, T: Load>(sheet: &Sheet<'s, T>) -> RainedLink<'s, T>
+    ensures answer { rained T.Load result ≡ starting sheet.now }
+    ensures law { (book : List T) → Reached book sheet.now.repeats [] (rained T.Load result).link }
+{
+    let to_hut = Rain::new(Wire::new(), sheet.to_hut()).unwrap();
+    let back = Rain::new(Store::new(), sheet.back()).unwrap();
+    let mut link = Link::new(to_hut, back);
+    link.join(sheet.repeats()).unwrap();
+    link
+}
+// The calls of a sheet, each with its answer. Open: whether there is memory for them.
+pub fn sheet_events<'s, T: Load>(
+    heap: Global,
+    sheet: &Sheet<'s, T>,
+) -> Result<Vec<Event<T>>, AllocError>
+    ensures made { IfOk result (λ events. vec_items events ≡ events_of sheet.now) }
+    ensures law { IfOk result (λ _. TruthfulRun sheet.now) }
+{
+    let mut link = joined_link(sheet);
+    let calls = sheet.calls();
+    // what no call of the sheet writes to the log would show
+    let unwritten = Event {
+        call: Call::Meet,
+        answer: Ok(Answer::Done),
+    };
+    let mut log = vec![in heap; unwritten; calls.len()]?;
+    run_whole(&mut link, sheet.book(), calls, &mut log);
+    Ok(log)
 }

@@ -1,0 +1,64 @@
+-- What a sheet prints: a line for each call, or one that says why it is turned down.
+use Rattle.std.specs.Prelude.{ℕ, List, ◌++◌, Ok, Err, Result, codes}
+use Rattle.std.specs.List.{flat_map}
+use Rattle.loads.specs.declared.kinds.Load.{Ghosts}
+use Rattle.loads.specs.Pieces.{pieces}
+use Rattle.loads.specs.Readings.{readings}
+use Rattle.channels.specs.declared.marks.Mark.TheVariants.{Pass}
+use Rattle.link.specs.declared.events.Event.{Event}
+use Rattle.link.specs.States.{started}
+use Rattle.link.specs.Truths.{Truthful}
+use Rattle.link.specs.Turns.{turns}
+use Rattle.linktext.specs.Lines.{call_text}
+use Rattle.sheet.specs.declared.anysheets.AnySheet.{AnySheet}
+use Rattle.sheet.specs.declared.anysheets.AnySheet.TheVariants.{Readings, Pieces}
+use Rattle.sheet.specs.declared.faults.SheetFault.{SheetFault}
+use Rattle.sheet.specs.AnySheets.{sheet_reads}
+use Rattle.sheet.specs.Faults.{fault_text}
+use Rattle.sheet.specs.Sheets.{SheetParts}
+use Rattle.sheetrun.specs.Weathers.{Driven, drives}
+
+module _ {T : Type 0} where
+  -- a link that joined with the repeats of a sheet, over two empty channels, with all marks to come
+  abbrev pub starting : SheetParts T → Driven T
+  starting sheet = record {
+    link = started sheet.repeats;
+    to_hut = record { mark = Pass; ahead = sheet.to_hut };
+    back = record { mark = Pass; ahead = sheet.back };
+  }
+
+  -- the calls of a sheet with their answers
+  abbrev pub events_of : SheetParts T → List (Event T)
+  events_of sheet = (drives sheet.book sheet.calls (starting sheet)).0
+
+  -- the law holds of a sheet's run
+  abbrev pub TruthfulRun : SheetParts T → Type 0
+  TruthfulRun sheet = Truthful sheet.book sheet.repeats (turns (events_of sheet))
+
+-- a text on a line
+abbrev pub line : List ℕ → List ℕ
+line text = text ++ codes "\n"
+
+-- a line for each call with its answer
+abbrev pub event_lines : {T : Type 0} → Ghosts T → List (Event T) → List ℕ
+event_lines kind events = flat_map (λ event. line (call_text kind event)) events
+
+-- the lines of a sheet
+abbrev pub run_lines : AnySheet → List ℕ
+run_lines (Readings sheet) = event_lines readings (events_of sheet)
+run_lines (Pieces sheet) = event_lines pieces (events_of sheet)
+
+-- or the line that says why it is turned down
+abbrev pub prints : Result AnySheet SheetFault → List ℕ
+prints (Ok sheet) = run_lines sheet
+prints (Err fault) = line (fault_text fault)
+
+-- all that a sheet prints
+abbrev pub sheet_prints : List ℕ → List ℕ
+sheet_prints octets = prints (sheet_reads octets)
+
+-- the law holds of what is printed: where the octets are a sheet, of its run
+abbrev pub TruthfulPrints : Result AnySheet SheetFault → Type 0
+TruthfulPrints (Ok (Readings sheet)) = TruthfulRun sheet
+TruthfulPrints (Ok (Pieces sheet)) = TruthfulRun sheet
+TruthfulPrints (Err fault) = Unit {0}
