@@ -9,7 +9,7 @@ use std::marker::Model;
 pub const MOST_MARKS: usize = 64;
 
 // What becomes of a frame.
-#[derive(Clone, Copy)]
+#[derive(Clone, Copy, Debug, PartialEq, Eq)]
 pub enum Mark {
     // Mark 0: the answers of the channel below are passed on.
     Pass,
@@ -20,7 +20,7 @@ pub enum Mark {
 }
 
 // An octet is above 2.
-#[derive(Drop)]
+#[derive(Clone, Copy, Debug, PartialEq, Eq)]
 pub struct NotAMark;
 
 impl TryFrom<u8> for Mark {

@@ -23,6 +23,11 @@ fault_at refusal place = record { refusal = refusal; place = place }
 abbrev pub fault_text : SheetFault → List ℕ
 fault_text fault = codes "sheet " ++ (decimal (number_of fault.refusal) ++ (codes " at " ++ decimal fault.place))
 
+-- why there is no sheet, in words
+abbrev pub error_text : ReadError → List ℕ
+error_text (Refused fault) = fault_text fault
+error_text NoMemory = codes "no memory"
+
 -- why a reader has no answer: the refusal that is said, or want of memory, which may come whatever is said
 abbrev pub Fails : {X : Type 0} → Result X SheetFault → ReadError → Type 0
 Fails said (Refused fault) = said ≡ Err fault

@@ -1,7 +1,7 @@
 // Why a sheet is turned down, by fixed numbers, and where.
 ghost use Rattle.std.specs.Prelude.{◌≡◌, Some};
 ghost use Rattle.std.proofs.Common.{rules};
-ghost use Rattle.sheet.specs.Faults.{number_of, fault_text};
+ghost use Rattle.sheet.specs.Faults.{number_of, fault_text, error_text};
 ghost use Rattle.sheet.specs.declared.faults.ReadError.TheVariants.{Refused, NoMemory};
 
 use loads::Refusal;
@@ -62,6 +62,20 @@ pub enum ReadError {
     Refused(SheetFault),
     NoMemory,
 }
+
+// Open: whether all of it can be written.
+impl fmt::Display for ReadError {
+    ghost output = { λ error. Some (error_text error) };
+
+    fn fmt<W: fmt::Write>(&self, f: &mut fmt::Formatter<W>) -> fmt::Result {
+        match self {
+            ReadError::Refused(fault) => write!(f, "{fault}"),
+            ReadError::NoMemory => write!(f, "no memory"),
+        }
+    }
+}
+
+impl Error for ReadError {}
 
 // This and the next two by hand, since of a derived `From` no contract says what it makes.
 impl From<SheetFault> for ReadError {

@@ -11,11 +11,11 @@ use loads::{Load, Piece, Reading};
 const TRAILER_SIZE: usize = 18;
 
 // The most octets of a sheet.
-const MOST_OCTETS: usize = 16_384;
+pub const MOST_OCTETS: usize = 16_384;
 
 // Which kind of load a sheet has.
-#[derive(Clone, Copy, Debug, PartialEq, Eq)]
-pub enum LoadKind {
+#[derive(Clone, Copy)]
+pub(crate) enum LoadKind {
     Reading,
     Piece,
 }
@@ -63,7 +63,7 @@ fn distances_fit(place: usize, trailer: &[u8; TRAILER_SIZE]) -> bool
 
 // The four sections of a sheet, as octets.
 #[derive(Drop)]
-pub(crate) struct Lists<'s> {
+pub(crate) struct Sections<'s> {
     pub(crate) book: &'s [u8],
     pub(crate) to_hut: &'s [u8],
     pub(crate) back: &'s [u8],
@@ -73,14 +73,14 @@ pub(crate) struct Lists<'s> {
 impl Layout {
     // The sections of the sheet that the layout was read from.
     #[tactic(auto, using(crate::proofs::Bounds::layout_bounds))]
-    pub(crate) fn lists<'s>(&self, octets: &'s [u8]) -> Lists<'s>
+    pub(crate) fn sections<'s>(&self, octets: &'s [u8]) -> Sections<'s>
         requires { layout_reads octets.now ≡ Ok self.now }
         ensures book { result.book.now ≡ take self.now.to_hut octets.now }
         ensures to_hut { result.to_hut.now ≡ slice_range octets.now self.now.to_hut self.now.back }
         ensures back { result.back.now ≡ slice_range octets.now self.now.back self.now.calls }
         ensures calls { result.calls.now ≡ slice_range octets.now self.now.calls self.now.trailer }
     {
-        Lists {
+        Sections {
             book: &octets[..self.to_hut],
             to_hut: &octets[self.to_hut..self.back],
             back: &octets[self.back..self.calls],

@@ -12,6 +12,6 @@ mod sheets;
 
 pub use anysheets::AnySheet;
 pub use faults::{ReadError, SheetFault, SheetRefusal};
-pub use layouts::LoadKind;
+pub use layouts::MOST_OCTETS;
 pub use parts::{Part, Way};
 pub use sheets::Sheet;

@@ -15,7 +15,7 @@ pub enum Way {
 }
 
 // A record of a sheet. Its place is that of its first octet, counted from 0.
-#[derive(Clone, Copy)]
+#[derive(Clone, Copy, Debug, PartialEq, Eq)]
 pub enum Part<'s, T> {
     // A record of the book: a load.
     BookRecord {

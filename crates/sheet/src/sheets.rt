@@ -120,22 +120,22 @@ fn read_parts<'s, T: Load>(
     requires { layout_reads octets.now ≡ Ok layout.now }
     ensures cases { MatchResult result (λ parts. parts_read T.Load layout.now octets.now ≡ Ok (map seen (vec_items parts))) (λ error. Fails (parts_read T.Load layout.now octets.now) error) }
 {
-    let lists = layout.lists(octets);
+    let sections = layout.sections(octets);
     let mut parts = Vec::new(heap);
-    read_section(&mut parts, Section::Book, 0, lists.book)?;
+    read_section(&mut parts, Section::Book, 0, sections.book)?;
     read_section(
         &mut parts,
         Section::Marks(Way::ToHut),
         layout.to_hut,
-        lists.to_hut,
+        sections.to_hut,
     )?;
     read_section(
         &mut parts,
         Section::Marks(Way::Back),
         layout.back,
-        lists.back,
+        sections.back,
     )?;
-    read_section(&mut parts, Section::Calls, layout.calls, lists.calls)?;
+    read_section(&mut parts, Section::Calls, layout.calls, sections.calls)?;
     Ok(parts)
 }
 
@@ -150,9 +150,9 @@ impl<'s, T: Load> Sheet<'s, T> {
         ensures cases { MatchResult result (λ sheet. sheet_read T.Load layout.now octets.now ≡ Ok sheet) (λ error. Fails (sheet_read T.Load layout.now octets.now) error) }
         ensures law { IfOk result (λ sheet. Covers sheet.parts octets.now) }
     {
-        let lists = layout.lists(octets);
+        let sections = layout.sections(octets);
         let parts = read_parts(heap, layout, octets)?;
-        let Ok(book) = Book::read(heap, count_loads(&parts), lists.book) else {
+        let Ok(book) = Book::read(heap, count_loads(&parts), sections.book) else {
             return Err(ReadError::NoMemory);
         };
         let calls = calls_among(heap, &parts)?;
@@ -160,8 +160,8 @@ impl<'s, T: Load> Sheet<'s, T> {
             repeats: layout.repeats,
             parts,
             book,
-            to_hut: lists.to_hut,
-            back: lists.back,
+            to_hut: sections.to_hut,
+            back: sections.back,
             calls,
         })
     }

@@ -5,38 +5,38 @@ use Rattle.sheet.proofs.sheets.read_parts.Goals as goal
 
 pub returns-in_err-read_section : goal.returns-in_err-read_section
 returns-in_err-read_section g c =
-    let fails = rw c.lists-lists.ensures.book at c.in_err-read_section.ensures.cases in
+    let fails = rw c.sections-sections.ensures.book at c.in_err-read_section.ensures.cases in
     search (rules, one_fails g.T.Load c.args.layout.now c.args.octets.now _ fails)
 
 pub returns-in_err-read_section-2 : goal.returns-in_err-read_section-2
 returns-in_err-read_section-2 g c =
     let none = ap (map seen) c.new-parts.ensures.items in
-    let first = rw c.lists-lists.ensures.book at c.in_ok-read_section.ensures.cases in
-    let fails = rw c.lists-lists.ensures.to_hut at c.in_err-read_section-2.ensures.cases in
+    let first = rw c.sections-sections.ensures.book at c.in_ok-read_section.ensures.cases in
+    let fails = rw c.sections-sections.ensures.to_hut at c.in_err-read_section-2.ensures.cases in
     search (rules, two_fails g.T.Load c.args.layout.now c.args.octets.now _ _ _ none first fails)
 
 pub returns-in_err-read_section-3 : goal.returns-in_err-read_section-3
 returns-in_err-read_section-3 g c =
     let none = ap (map seen) c.new-parts.ensures.items in
-    let first = rw c.lists-lists.ensures.book at c.in_ok-read_section.ensures.cases in
-    let second = rw c.lists-lists.ensures.to_hut at c.in_ok-read_section-2.ensures.cases in
-    let fails = rw c.lists-lists.ensures.back at c.in_err-read_section-3.ensures.cases in
+    let first = rw c.sections-sections.ensures.book at c.in_ok-read_section.ensures.cases in
+    let second = rw c.sections-sections.ensures.to_hut at c.in_ok-read_section-2.ensures.cases in
+    let fails = rw c.sections-sections.ensures.back at c.in_err-read_section-3.ensures.cases in
     search (rules, three_fails g.T.Load c.args.layout.now c.args.octets.now _ _ _ _ none first second fails)
 
 pub returns-in_err-read_section-4 : goal.returns-in_err-read_section-4
 returns-in_err-read_section-4 g c =
     let none = ap (map seen) c.new-parts.ensures.items in
-    let first = rw c.lists-lists.ensures.book at c.in_ok-read_section.ensures.cases in
-    let second = rw c.lists-lists.ensures.to_hut at c.in_ok-read_section-2.ensures.cases in
-    let third = rw c.lists-lists.ensures.back at c.in_ok-read_section-3.ensures.cases in
-    let fails = rw c.lists-lists.ensures.calls at c.in_err-read_section-4.ensures.cases in
+    let first = rw c.sections-sections.ensures.book at c.in_ok-read_section.ensures.cases in
+    let second = rw c.sections-sections.ensures.to_hut at c.in_ok-read_section-2.ensures.cases in
+    let third = rw c.sections-sections.ensures.back at c.in_ok-read_section-3.ensures.cases in
+    let fails = rw c.sections-sections.ensures.calls at c.in_err-read_section-4.ensures.cases in
     search (rules, four_fails g.T.Load c.args.layout.now c.args.octets.now _ _ _ _ _ none first second third fails)
 
 pub returns : goal.returns
 returns g c =
     let none = ap (map seen) c.new-parts.ensures.items in
-    let first = rw c.lists-lists.ensures.book at c.in_ok-read_section.ensures.cases in
-    let second = rw c.lists-lists.ensures.to_hut at c.in_ok-read_section-2.ensures.cases in
-    let third = rw c.lists-lists.ensures.back at c.in_ok-read_section-3.ensures.cases in
-    let fourth = rw c.lists-lists.ensures.calls at c.in_ok-read_section-4.ensures.cases in
+    let first = rw c.sections-sections.ensures.book at c.in_ok-read_section.ensures.cases in
+    let second = rw c.sections-sections.ensures.to_hut at c.in_ok-read_section-2.ensures.cases in
+    let third = rw c.sections-sections.ensures.back at c.in_ok-read_section-3.ensures.cases in
+    let fourth = rw c.sections-sections.ensures.calls at c.in_ok-read_section-4.ensures.cases in
     record { cases = all_read g.T.Load c.args.layout.now c.args.octets.now _ _ _ _ _ none first second third fourth }
