@@ -1,5 +1,5 @@
 -- A whole sheet that was read: what its parts give a run, and that with the trailer they are the sheet.
-use Rattle.std.proofs.Common.{◌≡◌, ℕ, ◌+◌, ◌-◌, ◌≤◌, true, List, [], ◌∷◌, ◌++◌, length, take, drop, Ok, Err, Result, slice_range, refl, ap, sym, ◌∙◌, rules, arith, le-leb, length-take-le}
+use Rattle.std.proofs.Common.{◌<◌, zero, suc, ◌≡◌, ℕ, ◌+◌, ◌-◌, ◌≤◌, true, List, [], ◌∷◌, ◌++◌, length, take, drop, Ok, Err, Result, slice_range, refl, ap, sym, ◌∙◌, rules, arith, le-leb, length-take-le}
 use Rattle.std.specs.List.{flat_map}
 use Rattle.std.proofs.lemmas.Grind.{flat_map-append}
 use Rattle.std.proofs.lemmas.List.{append_assoc, append-nil, take-append-drop, length-append, length-drop}
@@ -197,3 +197,35 @@ module _ {T : Type 0} where
       → parts_read kind layout octets ≡ Ok parts → book ≡ loads_in parts → to_hut ≡ marks_in ToHut parts → back ≡ marks_in Back parts → calls ≡ calls_in parts
       → sheet_read kind layout octets ≡ Ok (record { repeats = layout.repeats; parts = parts; book = book; to_hut = to_hut; back = back; calls = calls })
   sheet_is kind layout octets parts book to_hut back calls read loads hut backs called = rw (read, loads, hut, backs, called) refl
+
+  no_parts : (parts : List (Found T)) → ◌≡◌ {A = Result (List (Found T)) SheetFault} (Ok []) (Ok parts) → parts ≡ []
+  no_parts [] is = refl
+  no_parts (part ∷ parts) is = search rules
+
+  -- a sheet with records has octets before its trailer
+  none_within_at : (trailer : ℕ) (kind : Ghosts T) (layout : Layout) (octets : List ℕ) (parts : List (Found T)) → layout.trailer ≡ trailer → Bounds octets layout → Sections kind layout octets parts
+      → 0 < length parts → 0 < trailer
+  none_within_at (suc trailer) kind layout octets parts is bounds read some = omega arith
+  none_within_at zero kind layout octets parts is bounds read some =
+      let to_hut : layout.to_hut ≡ 0 = omega (arith, is, bounds.to_hut, bounds.back, bounds.calls) in
+      let back : layout.back ≡ 0 = omega (arith, is, bounds.back, bounds.calls) in
+      let calls : layout.calls ≡ 0 = omega (arith, is, bounds.calls) in
+      let none : length parts ≡ 0 =
+      ap length read.whole
+      ∙ rw (
+        no_parts read.book (rw to_hut at read.book_read),
+        no_parts read.to_hut (rw (to_hut, back) at read.to_hut_read),
+        no_parts read.back (rw (back, calls) at read.back_read),
+        no_parts read.calls (rw (calls, is) at read.calls_read),
+      ) refl in
+      omega (arith, some, none)
+
+  pub parts_within : (kind : Ghosts T) (layout : Layout) (octets : List ℕ) (parts : List (Found T)) → layout_reads octets ≡ Ok layout → parts_read kind layout octets ≡ Ok parts
+      → 0 < length parts → 0 < layout.trailer
+  parts_within kind layout octets parts laid is some =
+      none_within_at layout.trailer kind layout octets parts refl (layout_bounds octets layout laid) (sections_of kind layout octets parts is) some
+
+  -- and so has one with loads
+  pub loads_within : (parts : List (Found T)) → 0 < length (loads_in parts) → 0 < length parts
+  loads_within [] some = some
+  loads_within (part ∷ parts) some = omega arith

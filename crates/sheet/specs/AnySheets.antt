@@ -1,5 +1,5 @@
 -- A sheet of whichever kind of load its trailer names.
-use Rattle.std.specs.Prelude.{ℕ, List, Ok, Err, Result}
+use Rattle.std.specs.Prelude.{ℕ, ◌<◌, List, Ok, Err, Result}
 use Rattle.loads.specs.Pieces.{pieces}
 use Rattle.loads.specs.Readings.{readings}
 use Rattle.sheet.specs.declared.anysheets.AnySheet.{AnySheet}
@@ -28,6 +28,11 @@ layout_then (Err fault) octets = Err fault
 -- the sheet that octets are, or why they are none: the smallest number, at its first place
 abbrev pub sheet_reads : List ℕ → Result AnySheet SheetFault
 sheet_reads octets = layout_then (layout_reads octets) octets
+
+-- a good trailer with octets before it
+abbrev pub HasRecords : Result Layout SheetFault → Type 0
+HasRecords (Ok layout) = 0 < layout.trailer
+HasRecords (Err fault) = ⊥
 
 -- the parts of a sheet cover it
 abbrev pub Covered : AnySheet → List ℕ → Type 0

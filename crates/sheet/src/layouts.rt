@@ -1,5 +1,5 @@
 // The trailer of a sheet: where its lists are, which kind of load it has, and how many repeats.
-ghost use Rattle.std.specs.Prelude.{◌≡◌, ◌+◌, ◌*◌, ◌<◌, length, take, Ok, slice_range};
+ghost use Rattle.std.specs.Prelude.{◌≡◌, ◌+◌, ◌*◌, ◌<◌, ◌≤◌, length, take, Ok, slice_range};
 ghost use Rattle.loads.specs.Octets.{field};
 ghost use Rattle.sheet.specs.Layouts.{layout_reads, load_kind, distance, distances_fit};
 
@@ -79,6 +79,7 @@ impl Layout {
         ensures to_hut { result.to_hut.now ≡ slice_range octets.now self.now.to_hut self.now.back }
         ensures back { result.back.now ≡ slice_range octets.now self.now.back self.now.calls }
         ensures calls { result.calls.now ≡ slice_range octets.now self.now.calls self.now.trailer }
+        ensures within { (length result.book.now ≤ self.now.trailer) × (length result.to_hut.now ≤ self.now.trailer) × (length result.back.now ≤ self.now.trailer) × (length result.calls.now ≤ self.now.trailer) }
     {
         Sections {
             book: &octets[..self.to_hut],

@@ -1,6 +1,7 @@
 // The four lists of a sheet, each read record by record.
-ghost use Rattle.std.specs.Prelude.{◌≡◌, ◌+◌, ◌<◌, ◌^◌, ◌++◌, length, map, Ok, Err, MatchResult, vec_items};
+ghost use Rattle.std.specs.Prelude.{◌≡◌, ◌+◌, ◌<◌, ◌^◌, ◌++◌, length, map, Ok, Err, IfErr, MatchResult, vec_items};
 ghost use Rattle.sheet.specs.Parts.{seen};
+ghost use Rattle.sheet.specs.declared.faults.ReadError.TheVariants.{NoMemory};
 ghost use Rattle.sheet.specs.Faults.{Fails};
 ghost use Rattle.sheet.specs.Sections.{room_of, refusal_of, record_of, before, section_reads};
 
@@ -9,7 +10,6 @@ use crate::parts::{Part, Way};
 use crate::records::{book_record, call_record, mark_record};
 use channels::MOST_MARKS;
 use loads::Load;
-use std::alloc::AllocError;
 
 // The most calls of a sheet.
 const MOST_CALLS: usize = 1024;
@@ -71,6 +71,7 @@ pub(crate) fn read_section<'s, T: Load>(
 ) -> Result<(), ReadError>
     requires { place + length octets.now < 2 ^ 64 }
     ensures cases { MatchResult result (λ _. before (map seen (vec_items parts.old)) (section_reads T.Load section place octets.now) ≡ Ok (map seen (vec_items parts.new))) (λ error. Fails (section_reads T.Load section place octets.now) error) }
+    ensures memory { IfErr result (λ error. error ≡ NoMemory → 0 < length octets.now) }
 {
     let mut room = section.room(octets);
     let mut place = place;

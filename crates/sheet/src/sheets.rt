@@ -1,6 +1,7 @@
 // A sheet: its parts in order, and what they give a run.
-ghost use Rattle.std.specs.Prelude.{◌≡◌, ◌≤◌, Ok, Err, Some, MatchResult, IfOk, length, map, take, vec_items};
+ghost use Rattle.std.specs.Prelude.{◌≡◌, ◌<◌, ◌≤◌, Ok, Err, Some, MatchResult, IfOk, IfErr, length, map, take, vec_items};
 ghost use Rattle.channels.specs.Marks.{marks_read};
+ghost use Rattle.sheet.specs.declared.faults.ReadError.TheVariants.{NoMemory};
 ghost use Rattle.sheet.specs.Faults.{Fails};
 ghost use Rattle.sheet.specs.Layouts.{layout_reads};
 ghost use Rattle.sheet.specs.Parts.{seen, loads_in, calls_in};
@@ -88,6 +89,7 @@ impl<'s, T> Sheet<'s, T> {
 // The calls among parts.
 fn calls_among<'s, T>(heap: Global, parts: &[Part<'s, T>]) -> Result<Vec<Call>, AllocError>
     ensures made { IfOk result (λ calls. vec_items calls ≡ calls_in (map seen parts.now)) }
+    ensures memory { IfErr result (λ _. 0 < length parts.now) }
 {
     let mut calls = Vec::new(heap);
     for part in parts {
@@ -119,6 +121,7 @@ fn read_parts<'s, T: Load>(
 ) -> Result<Vec<Part<'s, T>>, ReadError>
     requires { layout_reads octets.now ≡ Ok layout.now }
     ensures cases { MatchResult result (λ parts. parts_read T.Load layout.now octets.now ≡ Ok (map seen (vec_items parts))) (λ error. Fails (parts_read T.Load layout.now octets.now) error) }
+    ensures memory { IfErr result (λ error. error ≡ NoMemory → 0 < layout.now.trailer) }
 {
     let sections = layout.sections(octets);
     let mut parts = Vec::new(heap);
@@ -148,6 +151,7 @@ impl<'s, T: Load> Sheet<'s, T> {
     ) -> Result<Sheet<'s, T>, ReadError>
         requires { layout_reads octets.now ≡ Ok layout.now }
         ensures cases { MatchResult result (λ sheet. sheet_read T.Load layout.now octets.now ≡ Ok sheet) (λ error. Fails (sheet_read T.Load layout.now octets.now) error) }
+        ensures memory { IfErr result (λ error. error ≡ NoMemory → 0 < layout.now.trailer) }
         ensures law { IfOk result (λ sheet. Covers sheet.parts octets.now) }
     {
         let sections = layout.sections(octets);

@@ -28,4 +28,5 @@ loop-rest-preserved g c =
       reads = rw (c.octets.ensures.answer, c.in_ok-push.ensures.items, map_push seen c.loop-rest.parts.items c.in_ok-part.part)
           (read_more g.T.Load c.args.section c.loop-rest.room c.loop-rest.place c.loop-rest.rest.now _ _ _ _ c.loop-rest.invariant.reads (search rules) c.if-room-eq0.false c.in_ok-part.ensures.cases);
       fits = grind (arith, common_steps);
+      shorter = grind (arith, common_steps);
     }

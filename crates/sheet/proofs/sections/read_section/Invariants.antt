@@ -1,4 +1,4 @@
-use Rattle.std.proofs.Common.{◌≡◌, ◌+◌, ◌<◌, ◌^◌, length, map, vec_items}
+use Rattle.std.proofs.Common.{◌≡◌, ◌+◌, ◌<◌, ◌≤◌, ◌^◌, length, map, vec_items}
 use Rattle.sheet.specs.Parts.{seen}
 use Rattle.sheet.specs.Sections.{before, records_read, section_reads}
 use Rattle.sheet.proofs.sections.read_section.Given as goal
@@ -7,6 +7,7 @@ abbrev pub invariant-loop-rest : goal.invariant-loop-rest
 invariant-loop-rest g l = record {
   reads : before (map seen (vec_items l.parts)) (records_read g.T.Load l.section l.room l.place l.rest) ≡ before (map seen (vec_items l.initial.parts)) (section_reads g.T.Load l.section l.place-2 l.octets);
   fits : l.place + length l.rest < 2 ^ 64;
+  shorter : length l.rest ≤ length l.octets;
 }
 
 abbrev pub decreases-loop-rest : goal.decreases-loop-rest

@@ -3,28 +3,28 @@ use Rattle.sheet.specs.Parts.{seen}
 use Rattle.sheet.proofs.Joins.{one_fails, two_fails, three_fails, four_fails, all_read}
 use Rattle.sheet.proofs.sheets.read_parts.Goals as goal
 
-pub returns-in_err-read_section : goal.returns-in_err-read_section
-returns-in_err-read_section g c =
+pub returns-in_err-read_section-clause-cases : goal.returns-in_err-read_section-clause-cases
+returns-in_err-read_section-clause-cases g c =
     let fails = rw c.sections-sections.ensures.book at c.in_err-read_section.ensures.cases in
     search (rules, one_fails g.T.Load c.args.layout.now c.args.octets.now _ fails)
 
-pub returns-in_err-read_section-2 : goal.returns-in_err-read_section-2
-returns-in_err-read_section-2 g c =
+pub returns-in_err-read_section-2-clause-cases : goal.returns-in_err-read_section-2-clause-cases
+returns-in_err-read_section-2-clause-cases g c =
     let none = ap (map seen) c.new-parts.ensures.items in
     let first = rw c.sections-sections.ensures.book at c.in_ok-read_section.ensures.cases in
     let fails = rw c.sections-sections.ensures.to_hut at c.in_err-read_section-2.ensures.cases in
     search (rules, two_fails g.T.Load c.args.layout.now c.args.octets.now _ _ _ none first fails)
 
-pub returns-in_err-read_section-3 : goal.returns-in_err-read_section-3
-returns-in_err-read_section-3 g c =
+pub returns-in_err-read_section-3-clause-cases : goal.returns-in_err-read_section-3-clause-cases
+returns-in_err-read_section-3-clause-cases g c =
     let none = ap (map seen) c.new-parts.ensures.items in
     let first = rw c.sections-sections.ensures.book at c.in_ok-read_section.ensures.cases in
     let second = rw c.sections-sections.ensures.to_hut at c.in_ok-read_section-2.ensures.cases in
     let fails = rw c.sections-sections.ensures.back at c.in_err-read_section-3.ensures.cases in
     search (rules, three_fails g.T.Load c.args.layout.now c.args.octets.now _ _ _ _ none first second fails)
 
-pub returns-in_err-read_section-4 : goal.returns-in_err-read_section-4
-returns-in_err-read_section-4 g c =
+pub returns-in_err-read_section-4-clause-cases : goal.returns-in_err-read_section-4-clause-cases
+returns-in_err-read_section-4-clause-cases g c =
     let none = ap (map seen) c.new-parts.ensures.items in
     let first = rw c.sections-sections.ensures.book at c.in_ok-read_section.ensures.cases in
     let second = rw c.sections-sections.ensures.to_hut at c.in_ok-read_section-2.ensures.cases in
@@ -32,11 +32,11 @@ returns-in_err-read_section-4 g c =
     let fails = rw c.sections-sections.ensures.calls at c.in_err-read_section-4.ensures.cases in
     search (rules, four_fails g.T.Load c.args.layout.now c.args.octets.now _ _ _ _ _ none first second third fails)
 
-pub returns : goal.returns
-returns g c =
+pub returns-clause-cases : goal.returns-clause-cases
+returns-clause-cases g c =
     let none = ap (map seen) c.new-parts.ensures.items in
     let first = rw c.sections-sections.ensures.book at c.in_ok-read_section.ensures.cases in
     let second = rw c.sections-sections.ensures.to_hut at c.in_ok-read_section-2.ensures.cases in
     let third = rw c.sections-sections.ensures.back at c.in_ok-read_section-3.ensures.cases in
     let fourth = rw c.sections-sections.ensures.calls at c.in_ok-read_section-4.ensures.cases in
-    record { cases = all_read g.T.Load c.args.layout.now c.args.octets.now _ _ _ _ _ none first second third fourth }
+    all_read g.T.Load c.args.layout.now c.args.octets.now _ _ _ _ _ none first second third fourth
