@@ -1,6 +1,7 @@
 // A sheet: its parts in order, and what they give a run.
 ghost use Rattle.std.specs.Prelude.{◌≡◌, ◌<◌, ◌≤◌, Ok, Err, Some, MatchResult, IfOk, IfErr, length, map, take, vec_items};
 ghost use Rattle.channels.specs.Marks.{marks_read};
+ghost use Rattle.link.specs.Timers.{most_repeats};
 ghost use Rattle.sheet.specs.declared.faults.ReadError.TheVariants.{NoMemory};
 ghost use Rattle.sheet.specs.Faults.{Fails};
 ghost use Rattle.sheet.specs.Layouts.{layout_reads};
@@ -31,6 +32,7 @@ pub struct Sheet<'s, T> {
 impl<'s, T> Model for Sheet<'s, T> {
     ghost use Rattle.std.specs.Prelude.{◌≡◌, ◌≤◌, map, true, vec_items};
     ghost use Rattle.channels.specs.Marks.{good_marks, marks_of};
+    ghost use Rattle.link.specs.Timers.{most_repeats};
     ghost use Rattle.sheet.specs.Parts.{seen};
     ghost use Rattle.sheet.specs.Sheets.{SheetParts};
 
@@ -38,14 +40,14 @@ impl<'s, T> Model for Sheet<'s, T> {
 
     ghost view = { λ sheet. record { repeats = sheet.repeats; parts = map seen (vec_items sheet.parts); book = sheet.book; to_hut = marks_of sheet.to_hut.now; back = marks_of sheet.back.now; calls = vec_items sheet.calls } };
 
-    ghost invariant = { λ sheet. (good_marks sheet.to_hut.now ≡ true) × (good_marks sheet.back.now ≡ true) × (sheet.repeats ≤ 10) };
+    ghost invariant = { λ sheet. (good_marks sheet.to_hut.now ≡ true) × (good_marks sheet.back.now ≡ true) × (sheet.repeats ≤ most_repeats) };
 }
 
 impl<'s, T> Sheet<'s, T> {
     // How often a load may be sent again.
     pub fn repeats(&self) -> u8
         ensures answer { result ≡ self.now.repeats }
-        ensures few { result ≤ 10 }
+        ensures few { result ≤ most_repeats }
     {
         self.repeats
     }
