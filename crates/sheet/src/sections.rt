@@ -14,7 +14,7 @@ use loads::Load;
 // The most calls of a sheet.
 const MOST_CALLS: usize = 1024;
 
-// Which of a sheet's lists.
+// Which of the lists of a sheet.
 #[derive(Clone, Copy)]
 pub(crate) enum Section {
     Book,
@@ -23,7 +23,7 @@ pub(crate) enum Section {
 }
 
 impl Section {
-    // The most records of the section. The octets of a book are no more than its octets.
+    // The most records of the section; a book has no more of them than octets.
     fn room(self, octets: &[u8]) -> usize
         ensures answer { result ≡ room_of self octets.now }
     {

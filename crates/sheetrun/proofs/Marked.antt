@@ -3,7 +3,6 @@ use Rattle.std.proofs.Common.{◌≡◌, Bool, true, false, List, [], ◌∷◌,
 use Rattle.loads.specs.declared.frames.Frame.{Frame}
 use Rattle.channel.specs.declared.polls.Poll.{Poll}
 use Rattle.channel.specs.declared.polls.Poll.TheVariants as answer
-use Rattle.channel.specs.declared.rows.Event.{Event}
 use Rattle.channel.specs.declared.rows.Event.TheVariants as row
 use Rattle.channel.specs.Rows.{Row}
 use Rattle.channel.specs.Rules.{held}
@@ -25,12 +24,6 @@ after_put false weather = taken weather
 abbrev pub after_poll : Bool → Weather → Weather
 after_poll true weather = polled weather
 after_poll false weather = weather
-
--- the marks after what a call does to a channel: at most one put or poll
-abbrev pub after_call : {T : Type 0} → Bool → List (Event T) → Weather → Weather
-after_call holding [] weather = weather
-after_call holding (row.Put frame answer ∷ events) weather = after_put holding weather
-after_call holding (row.Poll answer ∷ events) weather = after_poll holding weather
 
 -- the answer of a poll that hears this of the oldest frame
 abbrev pub answer_of : {T : Type 0} → Heard → Frame T → Poll T
