@@ -1,0 +1,18 @@
+// Call sheets at their limits, what is read from them, and what their runs print.
+
+#![tactic(auto)]
+
+#[cfg(test)]
+mod bookcases;
+#[cfg(test)]
+mod callcases;
+#[cfg(test)]
+mod markcases;
+#[cfg(test)]
+mod plans;
+#[cfg(test)]
+mod sizes;
+#[cfg(test)]
+mod texts;
+#[cfg(test)]
+mod trailers;
