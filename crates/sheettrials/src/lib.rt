@@ -7,6 +7,8 @@ mod bookcases;
 #[cfg(test)]
 mod callcases;
 #[cfg(test)]
+mod firstfaults;
+#[cfg(test)]
 mod markcases;
 #[cfg(test)]
 mod plans;
