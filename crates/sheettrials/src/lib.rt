@@ -11,6 +11,8 @@ mod firstfaults;
 #[cfg(test)]
 mod markcases;
 #[cfg(test)]
+mod partcases;
+#[cfg(test)]
 mod plans;
 #[cfg(test)]
 mod sizes;
