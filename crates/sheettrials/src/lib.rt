@@ -9,11 +9,15 @@ mod callcases;
 #[cfg(test)]
 mod firstfaults;
 #[cfg(test)]
+mod lines;
+#[cfg(test)]
 mod markcases;
 #[cfg(test)]
 mod partcases;
 #[cfg(test)]
 mod plans;
+#[cfg(test)]
+mod runcases;
 #[cfg(test)]
 mod sizes;
 #[cfg(test)]
