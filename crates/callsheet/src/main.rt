@@ -11,9 +11,7 @@ const INPUT_LIMIT: u64 = MOST_OCTETS as u64 + 1;
 
 fn main(rt: HostRuntime) -> anyhow::Result<()> {
     let mut octets = Vec::new(rt.alloc());
-    rt.stdin()
-        .take(INPUT_LIMIT)
-        .read_to_end(&mut octets)?;
+    rt.stdin().take(INPUT_LIMIT).read_to_end(&mut octets)?;
     let lines = sheet_lines(rt.alloc(), &octets)?;
     print!(rt; "{lines}")?;
     Ok(())

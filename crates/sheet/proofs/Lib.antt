@@ -2,5 +2,5 @@ pub mod Bounds
 pub mod Chains
 pub mod Contents
 pub mod Cuts
-pub mod Joins
+pub mod InTurn
 pub mod Wholes

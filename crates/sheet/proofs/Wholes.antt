@@ -14,9 +14,9 @@ use Rattle.sheet.specs.declared.layouts.Layout.{Layout}
 use Rattle.sheet.specs.declared.parts.Way.TheVariants.{ToHut, Back}
 use Rattle.sheet.specs.declared.sections.Section.TheVariants as section
 use Rattle.sheet.specs.Layouts.{layout_reads, trailer_of}
-use Rattle.sheet.specs.Parts.{Found, load_in, mark_in, loads_in, marks_in, calls_in}
+use Rattle.sheet.specs.Parts.{PartState, load_in, mark_in, loads_in, marks_in, calls_in}
 use Rattle.sheet.specs.Sections.{before, section_reads}
-use Rattle.sheet.specs.Sheets.{joined, parts_read, sheet_read, InPlaces, Covers}
+use Rattle.sheet.specs.Sheets.{then_section, parts_read, sheet_read, InPlaces, Covers}
 use Rattle.sheet.proofs.Bounds.{Bounds, layout_bounds}
 use Rattle.sheet.proofs.Chains.{Chain, chain_of, chain_covers}
 use Rattle.sheet.proofs.Contents.{none_within, book_within, marks_within}
@@ -42,32 +42,32 @@ lists_whole layout octets bounds =
     ∙ rw (place, ← drop_split octets layout.calls layout.trailer bounds.calls, ← drop_split octets layout.back layout.calls bounds.back, ← drop_split octets layout.to_hut layout.back bounds.to_hut) (take-append-drop layout.to_hut octets)
 
 module _ {T : Type 0} where
-  before_ok : (parts : List (Found T)) (others : Result (List (Found T)) SheetFault) (all : List (Found T)) → before parts others ≡ Ok all
-      → (more : List (Found T)) × (others ≡ Ok more) × (all ≡ parts ++ more)
+  before_ok : (parts : List (PartState T)) (others : Result (List (PartState T)) SheetFault) (all : List (PartState T)) → before parts others ≡ Ok all
+      → (more : List (PartState T)) × (others ≡ Ok more) × (all ≡ parts ++ more)
   before_ok parts (Ok more) all is = (more, refl, search (rules, is))
   before_ok parts (Err fault) all is = search rules
 
   -- sections that were read together were each read
-  joined_ok : (section others : Result (List (Found T)) SheetFault) (all : List (Found T)) → joined section others ≡ Ok all
-      → (parts : List (Found T)) × (more : List (Found T)) × (section ≡ Ok parts) × (others ≡ Ok more) × (all ≡ parts ++ more)
+  joined_ok : (section others : Result (List (PartState T)) SheetFault) (all : List (PartState T)) → then_section section others ≡ Ok all
+      → (parts : List (PartState T)) × (more : List (PartState T)) × (section ≡ Ok parts) × (others ≡ Ok more) × (all ≡ parts ++ more)
   joined_ok (Ok parts) others all is =
       let (more, read, whole) = before_ok parts others all is in
       (parts, more, refl, read, whole)
   joined_ok (Err fault) others all is = search rules
 
   -- the parts of a sheet, section by section
-  record Sections (kind : Ghosts T) (layout : Layout) (octets : List ℕ) (parts : List (Found T)) : Type 0 where
-    pub book : List (Found T)
-    pub to_hut : List (Found T)
-    pub back : List (Found T)
-    pub calls : List (Found T)
+  record Sections (kind : Ghosts T) (layout : Layout) (octets : List ℕ) (parts : List (PartState T)) : Type 0 where
+    pub book : List (PartState T)
+    pub to_hut : List (PartState T)
+    pub back : List (PartState T)
+    pub calls : List (PartState T)
     pub book_read : section_reads kind section.Book 0 (take layout.to_hut octets) ≡ Ok book
     pub to_hut_read : section_reads kind (section.Marks ToHut) layout.to_hut (slice_range octets layout.to_hut layout.back) ≡ Ok to_hut
     pub back_read : section_reads kind (section.Marks Back) layout.back (slice_range octets layout.back layout.calls) ≡ Ok back
     pub calls_read : section_reads kind section.Calls layout.calls (slice_range octets layout.calls layout.trailer) ≡ Ok calls
     pub whole : parts ≡ book ++ (to_hut ++ (back ++ calls))
 
-  sections_of : (kind : Ghosts T) (layout : Layout) (octets : List ℕ) (parts : List (Found T)) → parts_read kind layout octets ≡ Ok parts → Sections kind layout octets parts
+  sections_of : (kind : Ghosts T) (layout : Layout) (octets : List ℕ) (parts : List (PartState T)) → parts_read kind layout octets ≡ Ok parts → Sections kind layout octets parts
   sections_of kind layout octets parts is =
       let (book, after_book, book_read, after_read, whole) = joined_ok _ _ parts is in
       let (to_hut, after_to_hut, to_hut_read, later_read, later) = joined_ok _ _ after_book after_read in
@@ -85,12 +85,12 @@ module _ {T : Type 0} where
       }
 
   -- over four sections
-  flat_map_four : {X : Type 0} (f : Found T → List X) (a b c d : List (Found T)) → flat_map f (a ++ (b ++ (c ++ d))) ≡ flat_map f a ++ (flat_map f b ++ (flat_map f c ++ flat_map f d))
+  flat_map_four : {X : Type 0} (f : PartState T → List X) (a b c d : List (PartState T)) → flat_map f (a ++ (b ++ (c ++ d))) ≡ flat_map f a ++ (flat_map f b ++ (flat_map f c ++ flat_map f d))
   flat_map_four f a b c d =
       flat_map-append f a (b ++ (c ++ d))
       ∙ ap (λ others. flat_map f a ++ others) (flat_map-append f b (c ++ d) ∙ ap (λ others. flat_map f b ++ others) (flat_map-append f c d))
 
-  in_places_append : (place : ℕ) (parts others : List (Found T)) → InPlaces place parts → InPlaces (place + length (flat_map (λ part. part.octets) parts)) others → InPlaces place (parts ++ others)
+  in_places_append : (place : ℕ) (parts others : List (PartState T)) → InPlaces place parts → InPlaces (place + length (flat_map (λ part. part.octets) parts)) others → InPlaces place (parts ++ others)
   in_places_append place [] others here there =
       let same : place + 0 ≡ place = omega arith in
       rw same at there
@@ -100,14 +100,14 @@ module _ {T : Type 0} where
       (first, in_places_append (place + length part.octets) parts others here (rw same at there))
 
   -- what the parts of a sheet give a run
-  pub record Gives (kind : Ghosts T) (layout : Layout) (octets : List ℕ) (parts : List (Found T)) : Type 0 where
+  pub record Gives (kind : Ghosts T) (layout : Layout) (octets : List ℕ) (parts : List (PartState T)) : Type 0 where
     pub book : book_reads kind (length (loads_in parts)) (take layout.to_hut octets) ≡ loads_in parts
     pub to_hut_good : good_marks (slice_range octets layout.to_hut layout.back) ≡ true
     pub to_hut : marks_of (slice_range octets layout.to_hut layout.back) ≡ marks_in ToHut parts
     pub back_good : good_marks (slice_range octets layout.back layout.calls) ≡ true
     pub back : marks_of (slice_range octets layout.back layout.calls) ≡ marks_in Back parts
 
-  module _ (kind : Ghosts T) (layout : Layout) (octets : List ℕ) (parts : List (Found T)) (read : Sections kind layout octets parts) where
+  module _ (kind : Ghosts T) (layout : Layout) (octets : List ℕ) (parts : List (PartState T)) (read : Sections kind layout octets parts) where
     abbrev book_chain : Chain kind section.Book (length (take layout.to_hut octets)) 0 (take layout.to_hut octets) read.book
     book_chain = chain_of kind section.Book (length (take layout.to_hut octets)) 0 (take layout.to_hut octets) read.book read.book_read
 
@@ -186,24 +186,24 @@ module _ {T : Type 0} where
               (rw to_hut_ends (in_places_append layout.back read.back read.calls back_places (rw back_ends calls_places)))))),
         )
 
-  pub sheet_gives : (kind : Ghosts T) (layout : Layout) (octets : List ℕ) (parts : List (Found T)) → parts_read kind layout octets ≡ Ok parts → Gives kind layout octets parts
+  pub sheet_gives : (kind : Ghosts T) (layout : Layout) (octets : List ℕ) (parts : List (PartState T)) → parts_read kind layout octets ≡ Ok parts → Gives kind layout octets parts
   sheet_gives kind layout octets parts is = gives kind layout octets parts (sections_of kind layout octets parts is)
 
-  pub sheet_covers : (kind : Ghosts T) (layout : Layout) (octets : List ℕ) (parts : List (Found T)) → layout_reads octets ≡ Ok layout → parts_read kind layout octets ≡ Ok parts → Covers parts octets
+  pub sheet_covers : (kind : Ghosts T) (layout : Layout) (octets : List ℕ) (parts : List (PartState T)) → layout_reads octets ≡ Ok layout → parts_read kind layout octets ≡ Ok parts → Covers parts octets
   sheet_covers kind layout octets parts laid is = covers kind layout octets parts (sections_of kind layout octets parts is) (layout_bounds octets layout laid)
 
   -- a sheet of what was read
-  pub sheet_is : (kind : Ghosts T) (layout : Layout) (octets : List ℕ) (parts : List (Found T)) (book : List T) (to_hut back : List Mark) (calls : List Call)
+  pub sheet_is : (kind : Ghosts T) (layout : Layout) (octets : List ℕ) (parts : List (PartState T)) (book : List T) (to_hut back : List Mark) (calls : List Call)
       → parts_read kind layout octets ≡ Ok parts → book ≡ loads_in parts → to_hut ≡ marks_in ToHut parts → back ≡ marks_in Back parts → calls ≡ calls_in parts
       → sheet_read kind layout octets ≡ Ok (record { repeats = layout.repeats; parts = parts; book = book; to_hut = to_hut; back = back; calls = calls })
   sheet_is kind layout octets parts book to_hut back calls read loads hut backs called = rw (read, loads, hut, backs, called) refl
 
-  no_parts : (parts : List (Found T)) → ◌≡◌ {A = Result (List (Found T)) SheetFault} (Ok []) (Ok parts) → parts ≡ []
+  no_parts : (parts : List (PartState T)) → ◌≡◌ {A = Result (List (PartState T)) SheetFault} (Ok []) (Ok parts) → parts ≡ []
   no_parts [] is = refl
   no_parts (part ∷ parts) is = search rules
 
   -- a sheet with records has octets before its trailer
-  none_within_at : (trailer : ℕ) (kind : Ghosts T) (layout : Layout) (octets : List ℕ) (parts : List (Found T)) → layout.trailer ≡ trailer → Bounds octets layout → Sections kind layout octets parts
+  none_within_at : (trailer : ℕ) (kind : Ghosts T) (layout : Layout) (octets : List ℕ) (parts : List (PartState T)) → layout.trailer ≡ trailer → Bounds octets layout → Sections kind layout octets parts
       → 0 < length parts → 0 < trailer
   none_within_at (suc trailer) kind layout octets parts is bounds read some = omega arith
   none_within_at zero kind layout octets parts is bounds read some =
@@ -220,12 +220,12 @@ module _ {T : Type 0} where
       ) refl in
       omega (arith, some, none)
 
-  pub parts_within : (kind : Ghosts T) (layout : Layout) (octets : List ℕ) (parts : List (Found T)) → layout_reads octets ≡ Ok layout → parts_read kind layout octets ≡ Ok parts
+  pub parts_within : (kind : Ghosts T) (layout : Layout) (octets : List ℕ) (parts : List (PartState T)) → layout_reads octets ≡ Ok layout → parts_read kind layout octets ≡ Ok parts
       → 0 < length parts → 0 < layout.trailer
   parts_within kind layout octets parts laid is some =
       none_within_at layout.trailer kind layout octets parts refl (layout_bounds octets layout laid) (sections_of kind layout octets parts is) some
 
   -- and so has one with loads
-  pub loads_within : (parts : List (Found T)) → 0 < length (loads_in parts) → 0 < length parts
+  pub loads_within : (parts : List (PartState T)) → 0 < length (loads_in parts) → 0 < length parts
   loads_within [] some = some
   loads_within (part ∷ parts) some = omega arith

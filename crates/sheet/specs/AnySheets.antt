@@ -11,23 +11,23 @@ use Rattle.sheet.specs.declared.layouts.LoadKind.TheVariants.{Reading, Piece}
 use Rattle.sheet.specs.Layouts.{layout_reads}
 use Rattle.sheet.specs.Sheets.{SheetParts, sheet_read, Covers}
 
--- a sheet of one kind among sheets of any
-abbrev pub among : {T : Type 0} → (SheetParts T → AnySheet) → Result (SheetParts T) SheetFault → Result AnySheet SheetFault
-among kind (Ok sheet) = Ok (kind sheet)
-among kind (Err fault) = Err fault
+-- a sheet of one kind as_any sheets of any
+abbrev pub as_any : {T : Type 0} → (SheetParts T → AnySheet) → Result (SheetParts T) SheetFault → Result AnySheet SheetFault
+as_any kind (Ok sheet) = Ok (kind sheet)
+as_any kind (Err fault) = Err fault
 
 -- the sheet of a layout, by the kind of load
-abbrev pub laid_reads : LoadKind → Layout → List ℕ → Result AnySheet SheetFault
-laid_reads Reading layout octets = among Readings (sheet_read readings layout octets)
-laid_reads Piece layout octets = among Pieces (sheet_read pieces layout octets)
+abbrev pub sheet_by_kind : LoadKind → Layout → List ℕ → Result AnySheet SheetFault
+sheet_by_kind Reading layout octets = as_any Readings (sheet_read readings layout octets)
+sheet_by_kind Piece layout octets = as_any Pieces (sheet_read pieces layout octets)
 
-abbrev pub layout_then : Result Layout SheetFault → List ℕ → Result AnySheet SheetFault
-layout_then (Ok layout) octets = laid_reads layout.kind layout octets
-layout_then (Err fault) octets = Err fault
+abbrev pub sheet_by_layout : Result Layout SheetFault → List ℕ → Result AnySheet SheetFault
+sheet_by_layout (Ok layout) octets = sheet_by_kind layout.kind layout octets
+sheet_by_layout (Err fault) octets = Err fault
 
 -- the sheet that octets are, or why they are none: the smallest number, at its first place
 abbrev pub sheet_reads : List ℕ → Result AnySheet SheetFault
-sheet_reads octets = layout_then (layout_reads octets) octets
+sheet_reads octets = sheet_by_layout (layout_reads octets) octets
 
 -- a good trailer with octets before it
 abbrev pub HasRecords : Result Layout SheetFault → Type 0

@@ -15,17 +15,17 @@ pub data Meaning (T : Type 0) : Type 0 where
   a_call : Call → Meaning T
 
 -- a record with its place and its octets
-pub record Found (T : Type 0) : Type 0 where
+pub record PartState (T : Type 0) : Type 0 where
   pub place : ℕ
   pub octets : List ℕ
   pub meaning : Meaning T
 
 module _ {T : Type 0} where
   -- a part as its place, the octets that it borrows, and their meaning
-  abbrev pub seen : Part T → Found T
-  seen (part.BookRecord place octets load) = record { place = place; octets = octets.now; meaning = a_load load }
-  seen (part.Mark place octets way mark) = record { place = place; octets = octets.now; meaning = a_mark way mark }
-  seen (part.Call place octets call) = record { place = place; octets = octets.now; meaning = a_call call }
+  abbrev pub part_state : Part T → PartState T
+  part_state (part.BookRecord place octets load) = record { place = place; octets = octets.now; meaning = a_load load }
+  part_state (part.Mark place octets way mark) = record { place = place; octets = octets.now; meaning = a_mark way mark }
+  part_state (part.Call place octets call) = record { place = place; octets = octets.now; meaning = a_call call }
 
   -- what a meaning has: a load; a mark for frames of one way; a call
   abbrev pub load_in : Meaning T → List T
@@ -47,11 +47,11 @@ module _ {T : Type 0} where
   call_in (a_call call) = call ∷ []
 
   -- and what the parts of a sheet have, in order: the book's loads, the marks of one way, the calls
-  abbrev pub loads_in : List (Found T) → List T
+  abbrev pub loads_in : List (PartState T) → List T
   loads_in parts = flat_map (λ part. load_in part.meaning) parts
 
-  abbrev pub marks_in : Way → List (Found T) → List Mark
+  abbrev pub marks_in : Way → List (PartState T) → List Mark
   marks_in way parts = flat_map (λ part. mark_in way part.meaning) parts
 
-  abbrev pub calls_in : List (Found T) → List Call
+  abbrev pub calls_in : List (PartState T) → List Call
   calls_in parts = flat_map (λ part. call_in part.meaning) parts

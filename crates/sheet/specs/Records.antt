@@ -13,7 +13,7 @@ use Rattle.sheet.specs.declared.faults.SheetFault.{SheetFault}
 use Rattle.sheet.specs.declared.faults.SheetRefusal.TheVariants.{NoLoad, BadMark, BadCall}
 use Rattle.sheet.specs.declared.parts.Way.{Way}
 use Rattle.sheet.specs.Faults.{fault_at}
-use Rattle.sheet.specs.Parts.{Meaning, a_load, a_mark, a_call, Found}
+use Rattle.sheet.specs.Parts.{Meaning, a_load, a_mark, a_call, PartState}
 
 -- the call of a letter that has no operands
 abbrev pub plain_call : ℕ → Option Call
@@ -33,7 +33,7 @@ plain_call octet =
 
 -- a record and the octets behind it, or a refusal
 abbrev pub Front : Type 0 → Type 0
-Front T = Result (Found T × List ℕ) SheetFault
+Front T = Result (PartState T × List ℕ) SheetFault
 
 module _ {T : Type 0} where
   -- a record of these octets with this meaning
@@ -41,21 +41,21 @@ module _ {T : Type 0} where
   front_of place octets meaning rest = Ok (record { place = place; octets = octets; meaning = meaning }, rest)
 
   -- a load, from as many octets as the kind has
-  abbrev pub loaded : ℕ → List ℕ → Result T Fault → List ℕ → Front T
-  loaded place octets (Ok load) rest = front_of place octets (a_load load) rest
-  loaded place octets (Err fault) rest = Err (fault_at NoLoad place)
+  abbrev pub load_front : ℕ → List ℕ → Result T Fault → List ℕ → Front T
+  load_front place octets (Ok load) rest = front_of place octets (a_load load) rest
+  load_front place octets (Err fault) rest = Err (fault_at NoLoad place)
 
   abbrev pub book_record : Ghosts T → ℕ → List ℕ → Front T
-  book_record kind place octets = loaded place (take kind.SIZE octets) (kind.reads (take kind.SIZE octets)) (drop kind.SIZE octets)
+  book_record kind place octets = load_front place (take kind.SIZE octets) (kind.reads (take kind.SIZE octets)) (drop kind.SIZE octets)
 
   -- a mark, from one octet
-  abbrev pub marked : Way → ℕ → ℕ → Result Mark NotAMark → List ℕ → Front T
-  marked way place octet (Ok mark) rest = front_of place (octet ∷ []) (a_mark way mark) rest
-  marked way place octet (Err above) rest = Err (fault_at BadMark place)
+  abbrev pub mark_front : Way → ℕ → ℕ → Result Mark NotAMark → List ℕ → Front T
+  mark_front way place octet (Ok mark) rest = front_of place (octet ∷ []) (a_mark way mark) rest
+  mark_front way place octet (Err above) rest = Err (fault_at BadMark place)
 
   abbrev pub mark_record : Way → ℕ → List ℕ → Front T
   mark_record way place [] = Err (fault_at BadMark place)
-  mark_record way place (octet ∷ octets) = marked way place octet (mark_read octet) octets
+  mark_record way place (octet ∷ octets) = mark_front way place octet (mark_read octet) octets
 
   -- a request, from its letter and four octets of operands
   abbrev pub request_record : ℕ → List ℕ → Front T
@@ -65,11 +65,11 @@ module _ {T : Type 0} where
       (Err (fault_at BadCall place))
 
   -- another call, from its letter
-  abbrev pub lettered : ℕ → ℕ → Option Call → List ℕ → Front T
-  lettered place letter (Some call) rest = front_of place (letter ∷ []) (a_call call) rest
-  lettered place letter None rest = Err (fault_at BadCall place)
+  abbrev pub letter_front : ℕ → ℕ → Option Call → List ℕ → Front T
+  letter_front place letter (Some call) rest = front_of place (letter ∷ []) (a_call call) rest
+  letter_front place letter None rest = Err (fault_at BadCall place)
 
   abbrev pub call_record : ℕ → List ℕ → Front T
   call_record place [] = Err (fault_at BadCall place)
   call_record place (letter ∷ octets) =
-      cond (letter == byte "Q") (request_record place (letter ∷ octets)) (lettered place letter (plain_call letter) octets)
+      cond (letter == byte "Q") (request_record place (letter ∷ octets)) (letter_front place letter (plain_call letter) octets)

@@ -7,7 +7,7 @@ use Rattle.sheet.specs.declared.faults.SheetRefusal.TheVariants.{NoLoad, BadMark
 use Rattle.sheet.specs.declared.sections.Section.{Section}
 use Rattle.sheet.specs.declared.sections.Section.TheVariants as section
 use Rattle.sheet.specs.Faults.{fault_at}
-use Rattle.sheet.specs.Parts.{Found}
+use Rattle.sheet.specs.Parts.{PartState}
 use Rattle.sheet.specs.Records.{Front, book_record, mark_record, call_record}
 
 -- the most records of a list: in a book, where each load has octets, there is room for all that fit
@@ -30,23 +30,23 @@ module _ {T : Type 0} where
   record_of kind section.Calls place octets = call_record place octets
 
   -- records before others; the first refusal stands
-  abbrev pub before : List (Found T) → Result (List (Found T)) SheetFault → Result (List (Found T)) SheetFault
+  abbrev pub before : List (PartState T) → Result (List (PartState T)) SheetFault → Result (List (PartState T)) SheetFault
   before parts (Ok others) = Ok (parts ++ others)
   before parts (Err fault) = Err fault
 
   -- what follows the record at the front
-  abbrev pub followed : Front T → (Found T → List ℕ → Result (List (Found T)) SheetFault) → Result (List (Found T)) SheetFault
-  followed (Ok (part, rest)) others = before (part ∷ []) (others part rest)
-  followed (Err fault) others = Err fault
+  abbrev pub then_records : Front T → (PartState T → List ℕ → Result (List (PartState T)) SheetFault) → Result (List (PartState T)) SheetFault
+  then_records (Ok (part, rest)) others = before (part ∷ []) (others part rest)
+  then_records (Err fault) others = Err fault
 
   -- at most so many records, up to the end of the octets, each where the one before it ends
-  abbrev pub records_read : Ghosts T → Section → ℕ → ℕ → List ℕ → Result (List (Found T)) SheetFault
+  abbrev pub records_read : Ghosts T → Section → ℕ → ℕ → List ℕ → Result (List (PartState T)) SheetFault
   records_read kind section room place [] = Ok []
   records_read kind section zero place (octet ∷ octets) = Err (fault_at (refusal_of section) place)
   records_read kind section (suc room) place (octet ∷ octets) =
-      followed (record_of kind section place (octet ∷ octets))
+      then_records (record_of kind section place (octet ∷ octets))
       (λ part rest. records_read kind section room (place + length part.octets) rest)
 
   -- a whole list
-  abbrev pub section_reads : Ghosts T → Section → ℕ → List ℕ → Result (List (Found T)) SheetFault
+  abbrev pub section_reads : Ghosts T → Section → ℕ → List ℕ → Result (List (PartState T)) SheetFault
   section_reads kind section place octets = records_read kind section (room_of section octets) place octets

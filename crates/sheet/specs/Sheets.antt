@@ -9,13 +9,13 @@ use Rattle.sheet.specs.declared.layouts.Layout.{Layout}
 use Rattle.sheet.specs.declared.parts.Way.TheVariants.{ToHut, Back}
 use Rattle.sheet.specs.declared.sections.Section.TheVariants as section
 use Rattle.sheet.specs.Layouts.{trailer_of}
-use Rattle.sheet.specs.Parts.{Found, loads_in, marks_in, calls_in}
+use Rattle.sheet.specs.Parts.{PartState, loads_in, marks_in, calls_in}
 use Rattle.sheet.specs.Sections.{before, section_reads}
 
 -- a sheet that was read: its repeats and its parts in order; and of these its book, the marks of both ways, and its calls
 pub record SheetParts (T : Type 0) : Type 0 where
   pub repeats : ℕ
-  pub parts : List (Found T)
+  pub parts : List (PartState T)
   pub book : List T
   pub to_hut : List Mark
   pub back : List Mark
@@ -23,20 +23,20 @@ pub record SheetParts (T : Type 0) : Type 0 where
 
 module _ {T : Type 0} where
   -- the parts of two sections, one behind the other; the first refusal stands
-  abbrev pub joined : Result (List (Found T)) SheetFault → Result (List (Found T)) SheetFault → Result (List (Found T)) SheetFault
-  joined (Ok parts) others = before parts others
-  joined (Err fault) others = Err fault
+  abbrev pub then_section : Result (List (PartState T)) SheetFault → Result (List (PartState T)) SheetFault → Result (List (PartState T)) SheetFault
+  then_section (Ok parts) others = before parts others
+  then_section (Err fault) others = Err fault
 
   -- the parts of a sheet, section by section
-  abbrev pub parts_read : Ghosts T → Layout → List ℕ → Result (List (Found T)) SheetFault
+  abbrev pub parts_read : Ghosts T → Layout → List ℕ → Result (List (PartState T)) SheetFault
   parts_read kind layout octets =
-      joined (section_reads kind section.Book 0 (take layout.to_hut octets))
-      (joined (section_reads kind (section.Marks ToHut) layout.to_hut (slice_range octets layout.to_hut layout.back))
-      (joined (section_reads kind (section.Marks Back) layout.back (slice_range octets layout.back layout.calls))
+      then_section (section_reads kind section.Book 0 (take layout.to_hut octets))
+      (then_section (section_reads kind (section.Marks ToHut) layout.to_hut (slice_range octets layout.to_hut layout.back))
+      (then_section (section_reads kind (section.Marks Back) layout.back (slice_range octets layout.back layout.calls))
       (section_reads kind section.Calls layout.calls (slice_range octets layout.calls layout.trailer))))
 
   -- a sheet of these parts
-  abbrev pub sheet_of : ℕ → List (Found T) → SheetParts T
+  abbrev pub sheet_of : ℕ → List (PartState T) → SheetParts T
   sheet_of repeats parts = record {
     repeats = repeats;
     parts = parts;
@@ -46,7 +46,7 @@ module _ {T : Type 0} where
     calls = calls_in parts;
   }
 
-  abbrev pub with_repeats : ℕ → Result (List (Found T)) SheetFault → Result (SheetParts T) SheetFault
+  abbrev pub with_repeats : ℕ → Result (List (PartState T)) SheetFault → Result (SheetParts T) SheetFault
   with_repeats repeats (Ok parts) = Ok (sheet_of repeats parts)
   with_repeats repeats (Err fault) = Err fault
 
@@ -55,10 +55,10 @@ module _ {T : Type 0} where
   sheet_read kind layout octets = with_repeats layout.repeats (parts_read kind layout octets)
 
   -- parts that start at a place, each where the one before it ends
-  abbrev pub InPlaces : ℕ → List (Found T) → Type 0
+  abbrev pub InPlaces : ℕ → List (PartState T) → Type 0
   InPlaces place [] = Unit {0}
   InPlaces place (part ∷ parts) = (part.place ≡ place) × InPlaces (place + length part.octets) parts
 
   -- nothing is skipped and nothing overlaps: the parts in order, and the trailer behind them, are the sheet
-  abbrev pub Covers : List (Found T) → List ℕ → Type 0
+  abbrev pub Covers : List (PartState T) → List ℕ → Type 0
   Covers parts octets = (flat_map (λ part. part.octets) parts ++ trailer_of octets ≡ octets) × InPlaces 0 parts

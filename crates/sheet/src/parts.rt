@@ -1,6 +1,6 @@
 // A record of a sheet as a part of it: its place, its octets, and what they mean.
 ghost use Rattle.std.specs.Prelude.{◌≡◌};
-ghost use Rattle.sheet.specs.Parts.{seen};
+ghost use Rattle.sheet.specs.Parts.{part_state};
 
 use channels::Mark;
 use link::Call;
@@ -41,7 +41,7 @@ pub enum Part<'s, T> {
 impl<'s, T> Part<'s, T> {
     // Where the record starts.
     pub fn place(&self) -> usize
-        ensures answer { result ≡ (seen self.now).place }
+        ensures answer { result ≡ (part_state self.now).place }
     {
         match self {
             Part::BookRecord { place, .. } | Part::Mark { place, .. } | Part::Call { place, .. } =>
@@ -51,7 +51,7 @@ impl<'s, T> Part<'s, T> {
 
     // The octets of the record.
     pub fn octets(&self) -> &'s [u8]
-        ensures answer { result.now ≡ (seen self.now).octets }
+        ensures answer { result.now ≡ (part_state self.now).octets }
     {
         match self {
             Part::BookRecord { octets, .. }

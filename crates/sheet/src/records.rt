@@ -1,6 +1,6 @@
 // The record at the front of a list's octets, and the octets behind it.
 ghost use Rattle.std.specs.Prelude.{◌≡◌, Ok, Err, MatchResult};
-ghost use Rattle.sheet.specs.Parts.{seen};
+ghost use Rattle.sheet.specs.Parts.{part_state};
 ghost use Rattle.sheet.specs.Records.{plain_call, book_record as book_record_of, mark_record as mark_record_of, request_record as request_record_of, call_record as call_record_of};
 
 use crate::faults::{SheetFault, SheetRefusal};
@@ -14,7 +14,7 @@ pub(crate) fn book_record<'s, T: Load>(
     place: usize,
     octets: &'s [u8],
 ) -> Result<(Part<'s, T>, &'s [u8]), SheetFault>
-    ensures cases { MatchResult result (λ front. book_record_of T.Load place octets.now ≡ Ok (seen front.0, front.1.now)) (λ fault. book_record_of T.Load place octets.now ≡ Err fault) }
+    ensures cases { MatchResult result (λ front. book_record_of T.Load place octets.now ≡ Ok (part_state front.0, front.1.now)) (λ fault. book_record_of T.Load place octets.now ≡ Err fault) }
 {
     let refusal = SheetRefusal::NoLoad;
     let mut rest = octets;
@@ -40,7 +40,7 @@ pub(crate) fn mark_record<'s, T>(
     place: usize,
     octets: &'s [u8],
 ) -> Result<(Part<'s, T>, &'s [u8]), SheetFault>
-    ensures cases { MatchResult result (λ front. mark_record_of way place octets.now ≡ Ok (seen front.0, front.1.now)) (λ fault. mark_record_of {T = T} way place octets.now ≡ Err fault) }
+    ensures cases { MatchResult result (λ front. mark_record_of way place octets.now ≡ Ok (part_state front.0, front.1.now)) (λ fault. mark_record_of {T = T} way place octets.now ≡ Err fault) }
 {
     let refusal = SheetRefusal::BadMark;
     let [octet, rest @ ..] = octets else {
@@ -66,7 +66,7 @@ fn request_record<'s, T>(
     place: usize,
     octets: &'s [u8],
 ) -> Result<(Part<'s, T>, &'s [u8]), SheetFault>
-    ensures cases { MatchResult result (λ front. request_record_of place octets.now ≡ Ok (seen front.0, front.1.now)) (λ fault. request_record_of {T = T} place octets.now ≡ Err fault) }
+    ensures cases { MatchResult result (λ front. request_record_of place octets.now ≡ Ok (part_state front.0, front.1.now)) (λ fault. request_record_of {T = T} place octets.now ≡ Err fault) }
 {
     let [
         _letter,
@@ -120,7 +120,7 @@ pub(crate) fn call_record<'s, T>(
     place: usize,
     octets: &'s [u8],
 ) -> Result<(Part<'s, T>, &'s [u8]), SheetFault>
-    ensures cases { MatchResult result (λ front. call_record_of place octets.now ≡ Ok (seen front.0, front.1.now)) (λ fault. call_record_of {T = T} place octets.now ≡ Err fault) }
+    ensures cases { MatchResult result (λ front. call_record_of place octets.now ≡ Ok (part_state front.0, front.1.now)) (λ fault. call_record_of {T = T} place octets.now ≡ Err fault) }
 {
     let refusal = SheetRefusal::BadCall;
     let [letter, rest @ ..] = octets else {

@@ -1,6 +1,6 @@
 // The four lists of a sheet, each read record by record.
 ghost use Rattle.std.specs.Prelude.{◌≡◌, ◌+◌, ◌<◌, ◌^◌, ◌++◌, length, map, Ok, Err, IfErr, MatchResult, vec_items};
-ghost use Rattle.sheet.specs.Parts.{seen};
+ghost use Rattle.sheet.specs.Parts.{part_state};
 ghost use Rattle.sheet.specs.declared.faults.ReadError.TheVariants.{NoMemory};
 ghost use Rattle.sheet.specs.Faults.{Fails};
 ghost use Rattle.sheet.specs.Sections.{room_of, refusal_of, record_of, before, section_reads};
@@ -51,7 +51,7 @@ impl Section {
         place: usize,
         octets: &'s [u8],
     ) -> Result<(Part<'s, T>, &'s [u8]), SheetFault>
-        ensures cases { MatchResult result (λ front. record_of T.Load self place octets.now ≡ Ok (seen front.0, front.1.now)) (λ fault. record_of T.Load self place octets.now ≡ Err fault) }
+        ensures cases { MatchResult result (λ front. record_of T.Load self place octets.now ≡ Ok (part_state front.0, front.1.now)) (λ fault. record_of T.Load self place octets.now ≡ Err fault) }
     {
         match self {
             Section::Book => book_record(place, octets),
@@ -70,7 +70,7 @@ pub(crate) fn read_section<'s, T: Load>(
     octets: &'s [u8],
 ) -> Result<(), ReadError>
     requires { place + length octets.now < 2 ^ 64 }
-    ensures cases { MatchResult result (λ _. before (map seen (vec_items parts.old)) (section_reads T.Load section place octets.now) ≡ Ok (map seen (vec_items parts.new))) (λ error. Fails (section_reads T.Load section place octets.now) error) }
+    ensures cases { MatchResult result (λ _. before (map part_state (vec_items parts.old)) (section_reads T.Load section place octets.now) ≡ Ok (map part_state (vec_items parts.new))) (λ error. Fails (section_reads T.Load section place octets.now) error) }
     ensures memory { IfErr result (λ error. error ≡ NoMemory → 0 < length octets.now) }
 {
     let mut room = section.room(octets);

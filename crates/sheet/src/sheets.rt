@@ -5,7 +5,7 @@ ghost use Rattle.link.specs.Timers.{most_repeats};
 ghost use Rattle.sheet.specs.declared.faults.ReadError.TheVariants.{NoMemory};
 ghost use Rattle.sheet.specs.Faults.{Fails};
 ghost use Rattle.sheet.specs.Layouts.{layout_reads};
-ghost use Rattle.sheet.specs.Parts.{seen, loads_in, calls_in};
+ghost use Rattle.sheet.specs.Parts.{part_state, loads_in, calls_in};
 ghost use Rattle.sheet.specs.Sheets.{parts_read, sheet_read, Covers};
 
 use crate::faults::ReadError;
@@ -33,12 +33,12 @@ impl<'s, T> Model for Sheet<'s, T> {
     ghost use Rattle.std.specs.Prelude.{◌≡◌, ◌≤◌, map, true, vec_items};
     ghost use Rattle.channels.specs.Marks.{good_marks, marks_of};
     ghost use Rattle.link.specs.Timers.{most_repeats};
-    ghost use Rattle.sheet.specs.Parts.{seen};
+    ghost use Rattle.sheet.specs.Parts.{part_state};
     ghost use Rattle.sheet.specs.Sheets.{SheetParts};
 
     ghost Value = { SheetParts T };
 
-    ghost view = { λ sheet. record { repeats = sheet.repeats; parts = map seen (vec_items sheet.parts); book = sheet.book; to_hut = marks_of sheet.to_hut.now; back = marks_of sheet.back.now; calls = vec_items sheet.calls } };
+    ghost view = { λ sheet. record { repeats = sheet.repeats; parts = map part_state (vec_items sheet.parts); book = sheet.book; to_hut = marks_of sheet.to_hut.now; back = marks_of sheet.back.now; calls = vec_items sheet.calls } };
 
     ghost invariant = { λ sheet. (good_marks sheet.to_hut.now ≡ true) × (good_marks sheet.back.now ≡ true) × (sheet.repeats ≤ most_repeats) };
 }
@@ -54,7 +54,7 @@ impl<'s, T> Sheet<'s, T> {
 
     // The records, in the order of the sheet.
     pub fn parts(&self) -> &[Part<'s, T>]
-        ensures answer { map seen result.now ≡ self.now.parts }
+        ensures answer { map part_state result.now ≡ self.now.parts }
     {
         &self.parts
     }
@@ -90,7 +90,7 @@ impl<'s, T> Sheet<'s, T> {
 
 // The calls among parts.
 fn calls_among<'s, T>(heap: Global, parts: &[Part<'s, T>]) -> Result<Vec<Call>, AllocError>
-    ensures made { IfOk result (λ calls. vec_items calls ≡ calls_in (map seen parts.now)) }
+    ensures made { IfOk result (λ calls. vec_items calls ≡ calls_in (map part_state parts.now)) }
     ensures memory { IfErr result (λ _. 0 < length parts.now) }
 {
     let mut calls = Vec::new(heap);
@@ -104,7 +104,7 @@ fn calls_among<'s, T>(heap: Global, parts: &[Part<'s, T>]) -> Result<Vec<Call>, 
 
 // How many loads are among parts.
 fn count_loads<'s, T>(parts: &[Part<'s, T>]) -> usize
-    ensures answer { result ≡ length (loads_in (map seen parts.now)) }
+    ensures answer { result ≡ length (loads_in (map part_state parts.now)) }
 {
     let mut count = 0;
     for part in parts {
@@ -122,7 +122,7 @@ fn read_parts<'s, T: Load>(
     octets: &'s [u8],
 ) -> Result<Vec<Part<'s, T>>, ReadError>
     requires { layout_reads octets.now ≡ Ok layout.now }
-    ensures cases { MatchResult result (λ parts. parts_read T.Load layout.now octets.now ≡ Ok (map seen (vec_items parts))) (λ error. Fails (parts_read T.Load layout.now octets.now) error) }
+    ensures cases { MatchResult result (λ parts. parts_read T.Load layout.now octets.now ≡ Ok (map part_state (vec_items parts))) (λ error. Fails (parts_read T.Load layout.now octets.now) error) }
     ensures memory { IfErr result (λ error. error ≡ NoMemory → 0 < layout.now.trailer) }
 {
     let sections = layout.sections(octets);

@@ -1,3 +1,3 @@
-pub mod Decided
 pub mod Logs
-pub mod Marked
+pub mod RainsByMarks
+pub mod RunsByMarks

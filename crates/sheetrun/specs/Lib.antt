@@ -1,2 +1,2 @@
+pub mod CallsByMarks
 pub mod Prints
-pub mod Weathers

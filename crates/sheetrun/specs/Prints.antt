@@ -16,12 +16,12 @@ use Rattle.sheet.specs.declared.faults.SheetFault.{SheetFault}
 use Rattle.sheet.specs.AnySheets.{sheet_reads}
 use Rattle.sheet.specs.Faults.{fault_text}
 use Rattle.sheet.specs.Sheets.{SheetParts}
-use Rattle.sheetrun.specs.Weathers.{Driven, drives}
+use Rattle.sheetrun.specs.CallsByMarks.{MarkedLink, calls_by_marks}
 
 module _ {T : Type 0} where
   -- a link that joined with the repeats of a sheet, over two empty channels, with all marks to come
-  abbrev pub starting : SheetParts T → Driven T
-  starting sheet = record {
+  abbrev pub link_at_start : SheetParts T → MarkedLink T
+  link_at_start sheet = record {
     link = started sheet.repeats;
     to_hut = record { mark = Pass; ahead = sheet.to_hut };
     back = record { mark = Pass; ahead = sheet.back };
@@ -29,7 +29,7 @@ module _ {T : Type 0} where
 
   -- the calls of a sheet with their answers
   abbrev pub events_of : SheetParts T → List (Event T)
-  events_of sheet = (drives sheet.book sheet.calls (starting sheet)).0
+  events_of sheet = (calls_by_marks sheet.book sheet.calls (link_at_start sheet)).0
 
   -- the law holds of a sheet's run
   abbrev pub TruthfulRun : SheetParts T → Type 0

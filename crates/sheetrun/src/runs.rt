@@ -2,8 +2,8 @@
 ghost use Rattle.std.specs.Prelude.{◌≡◌, List, [], length, take, IfOk, vec_items};
 ghost use Rattle.link.specs.Histories.{Reached, Lawful};
 ghost use Rattle.link.specs.Runs.{run_answer, run_count, written, behind};
-ghost use Rattle.sheetrun.specs.Prints.{starting, events_of, TruthfulRun};
-ghost use Rattle.sheetrun.specs.Weathers.{rained, drives};
+ghost use Rattle.sheetrun.specs.Prints.{link_at_start, events_of, TruthfulRun};
+ghost use Rattle.sheetrun.specs.CallsByMarks.{marked_link, calls_by_marks};
 
 use channels::{Rain, Store, Wire};
 use link::{Answer, Call, Event, Link, LinkRefusal};
@@ -23,9 +23,9 @@ pub fn run_by_marks<'m, T: Load>(
     log: &mut [Event<T>],
 ) -> Result<(), LinkRefusal>
     ensures answer { result ≡ run_answer (length calls.now) (length log.old) }
-    ensures after { (written calls.now log.old log.new, rained T.Load link.new) ≡ drives book.now (take (run_count (length calls.now) (length log.old)) calls.now) (rained T.Load link.old) }
+    ensures after { (written calls.now log.old log.new, marked_link T.Load link.new) ≡ calls_by_marks book.now (take (run_count (length calls.now) (length log.old)) calls.now) (marked_link T.Load link.old) }
     ensures later { behind calls.now log.old log.new ≡ behind calls.now log.old log.old }
-    ensures law { Lawful book.now (rained T.Load link.old).link (written calls.now log.old log.new) (rained T.Load link.new).link }
+    ensures law { Lawful book.now (marked_link T.Load link.old).link (written calls.now log.old log.new) (marked_link T.Load link.new).link }
 {
     link.run(book, calls, log)
 }
@@ -38,16 +38,16 @@ fn run_whole<'m, T: Load>(
     log: &mut [Event<T>],
 )
     requires { length calls.now ≡ length log.old }
-    ensures after { (log.new, rained T.Load link.new) ≡ drives book.now calls.now (rained T.Load link.old) }
-    ensures law { Lawful book.now (rained T.Load link.old).link log.new (rained T.Load link.new).link }
+    ensures after { (log.new, marked_link T.Load link.new) ≡ calls_by_marks book.now calls.now (marked_link T.Load link.old) }
+    ensures law { Lawful book.now (marked_link T.Load link.old).link log.new (marked_link T.Load link.new).link }
 {
     run_by_marks(link, book, calls, log).unwrap();
 }
 
 // A link over the marks of a sheet, joined with its repeats.
 fn joined_link<'s, T: Load>(sheet: &Sheet<'s, T>) -> RainedLink<'s, T>
-    ensures answer { rained T.Load result ≡ starting sheet.now }
-    ensures law { (book : List T) → Reached book sheet.now.repeats [] (rained T.Load result).link }
+    ensures answer { marked_link T.Load result ≡ link_at_start sheet.now }
+    ensures law { (book : List T) → Reached book sheet.now.repeats [] (marked_link T.Load result).link }
 {
     let to_hut = Rain::new(Wire::new(), sheet.to_hut()).unwrap();
     let back = Rain::new(Store::new(), sheet.back()).unwrap();

@@ -1,6 +1,6 @@
 use Rattle.std.proofs.Common.{ap, rules, map}
-use Rattle.sheet.specs.Parts.{seen}
-use Rattle.sheet.proofs.Joins.{one_fails, two_fails, three_fails, four_fails, all_read}
+use Rattle.sheet.specs.Parts.{part_state}
+use Rattle.sheet.proofs.InTurn.{one_fails, two_fails, three_fails, four_fails, all_read}
 use Rattle.sheet.proofs.sheets.read_parts.Goals as goal
 
 pub returns-in_err-read_section-clause-cases : goal.returns-in_err-read_section-clause-cases
@@ -10,14 +10,14 @@ returns-in_err-read_section-clause-cases g c =
 
 pub returns-in_err-read_section-2-clause-cases : goal.returns-in_err-read_section-2-clause-cases
 returns-in_err-read_section-2-clause-cases g c =
-    let none = ap (map seen) c.new-parts.ensures.items in
+    let none = ap (map part_state) c.new-parts.ensures.items in
     let first = rw c.sections-sections.ensures.book at c.in_ok-read_section.ensures.cases in
     let fails = rw c.sections-sections.ensures.to_hut at c.in_err-read_section-2.ensures.cases in
     search (rules, two_fails g.T.Load c.args.layout.now c.args.octets.now _ _ _ none first fails)
 
 pub returns-in_err-read_section-3-clause-cases : goal.returns-in_err-read_section-3-clause-cases
 returns-in_err-read_section-3-clause-cases g c =
-    let none = ap (map seen) c.new-parts.ensures.items in
+    let none = ap (map part_state) c.new-parts.ensures.items in
     let first = rw c.sections-sections.ensures.book at c.in_ok-read_section.ensures.cases in
     let second = rw c.sections-sections.ensures.to_hut at c.in_ok-read_section-2.ensures.cases in
     let fails = rw c.sections-sections.ensures.back at c.in_err-read_section-3.ensures.cases in
@@ -25,7 +25,7 @@ returns-in_err-read_section-3-clause-cases g c =
 
 pub returns-in_err-read_section-4-clause-cases : goal.returns-in_err-read_section-4-clause-cases
 returns-in_err-read_section-4-clause-cases g c =
-    let none = ap (map seen) c.new-parts.ensures.items in
+    let none = ap (map part_state) c.new-parts.ensures.items in
     let first = rw c.sections-sections.ensures.book at c.in_ok-read_section.ensures.cases in
     let second = rw c.sections-sections.ensures.to_hut at c.in_ok-read_section-2.ensures.cases in
     let third = rw c.sections-sections.ensures.back at c.in_ok-read_section-3.ensures.cases in
@@ -34,7 +34,7 @@ returns-in_err-read_section-4-clause-cases g c =
 
 pub returns-clause-cases : goal.returns-clause-cases
 returns-clause-cases g c =
-    let none = ap (map seen) c.new-parts.ensures.items in
+    let none = ap (map part_state) c.new-parts.ensures.items in
     let first = rw c.sections-sections.ensures.book at c.in_ok-read_section.ensures.cases in
     let second = rw c.sections-sections.ensures.to_hut at c.in_ok-read_section-2.ensures.cases in
     let third = rw c.sections-sections.ensures.back at c.in_ok-read_section-3.ensures.cases in

@@ -1,6 +1,6 @@
 use Rattle.std.proofs.Common.{◌<◌, arith, length, map, rules, ◌∙◌}
 use Rattle.std.proofs.lemmas.List.{length-map}
-use Rattle.sheet.specs.Parts.{seen}
+use Rattle.sheet.specs.Parts.{part_state}
 use Rattle.sheet.proofs.Bounds.{layout_bounds}
 use Rattle.sheet.proofs.Wholes.{loads_within, parts_within, sheet_covers, sheet_gives, sheet_is}
 use Rattle.sheet.proofs.sheets.Sheet.read.Goals as goal
@@ -33,6 +33,6 @@ returns-in_default-clause-memory g c none =
 pub returns-in_err-calls-clause-memory : goal.returns-in_err-calls-clause-memory
 returns-in_err-calls-clause-memory g c =
     let some = rw c.deref-2.ensures.value at c.in_err-calls.ensures.memory in
-    let some_seen : 0 < length (map seen c.in_ok-parts.parts.items) = omega (arith, some, length-map c.in_ok-parts.parts.items seen) in
+    let some_seen : 0 < length (map part_state c.in_ok-parts.parts.items) = omega (arith, some, length-map c.in_ok-parts.parts.items part_state) in
     let within = parts_within g.T.Load c.args.layout.now c.args.octets.now _ c.requires c.in_ok-parts.ensures.cases some_seen in
     search (rules, within)

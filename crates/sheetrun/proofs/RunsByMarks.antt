@@ -27,8 +27,8 @@ use Rattle.link.specs.Histories.{choice}
 use Rattle.link.specs.Rules.{Answered, made, answered, shown, joined_at, by_sender_to_hut, by_hut_back, carry_from, return_from}
 use Rattle.link.specs.Runs.{Stepped, Runs, call_of}
 use Rattle.link.specs.States.{LinkState, LinkParts, plain}
-use Rattle.sheetrun.specs.Weathers.{heard_of, taken, polled, if_accepted, to_hut_after, back_after, heard_by, drive_at, drive, logged, drives, weather_of, driven_of}
-use Rattle.sheetrun.proofs.Marked.{after_put, put_marks, polls_marked}
+use Rattle.sheetrun.specs.CallsByMarks.{heard_by_mark, marks_after_put, marks_after_poll, marks_if_accepted, to_hut_marks, back_marks, heard_by, call_by_marks_at, call_by_marks, logged, calls_by_marks, rain_marks, marked_link_of}
+use Rattle.sheetrun.proofs.RainsByMarks.{after_put, put_marks, polls_marked}
 
 -- an answer that is shown
 shown_answer : {T X : Type 0} (show : X → Answer T) (outcome : Answered T X) → (shown show outcome).0 ≡ answered show outcome.0
@@ -44,17 +44,17 @@ module _ {T X C : Type 0} (waits : C → List (Frame X)) (link : LinkState T) (p
       → ((heard : Heard) → poll [] heard ≡ (Err NothingWaits, link))
       → ((oldest : Frame X) (others : List (Frame X)) (heard : Heard) → (poll (oldest ∷ others) heard).0 ≡ Ok heard)
       → waits before.below ≡ waiting → Row (rains (singles waits)) before (if_joined repeats (polls heard waiting)) after
-      → (outcome repeats waiting heard ≡ outcome repeats waiting (heard_of before.mark))
-      × (weather_of after ≡ if_accepted polled (shown Polled (outcome repeats waiting (heard_of before.mark))).0 (weather_of before))
-  polled_by None waiting heard before after none some is row = (refl, ap weather_of row)
+      → (outcome repeats waiting heard ≡ outcome repeats waiting (heard_by_mark before.mark))
+      × (rain_marks after ≡ marks_if_accepted marks_after_poll (shown Polled (outcome repeats waiting (heard_by_mark before.mark))).0 (rain_marks before))
+  polled_by None waiting heard before after none some is row = (refl, ap rain_marks row)
   polled_by (Some n) [] heard before after none some is row =
-      let nothing = none (heard_of before.mark) in
+      let nothing = none (heard_by_mark before.mark) in
       (none heard ∙ sym nothing, rw nothing (polls_marked waits [] heard before after is row).1)
   polled_by (Some n) (oldest ∷ others) heard before after none some is row =
       let (same, marks) = polls_marked waits (oldest ∷ others) heard before after is row in
-      let mark = heard_of before.mark in (
+      let mark = heard_by_mark before.mark in (
         ap (poll (oldest ∷ others)) (same refl),
-        marks ∙ sym (ap (λ answer. if_accepted polled answer (weather_of before)) (shown_answer Polled (poll (oldest ∷ others) mark) ∙ ap (answered Polled) (some oldest others mark))),
+        marks ∙ sym (ap (λ answer. marks_if_accepted marks_after_poll answer (rain_marks before)) (shown_answer Polled (poll (oldest ∷ others) mark) ∙ ap (answered Polled) (some oldest others mark))),
       )
 
 carry_hears : {T : Type 0} (oldest : Frame T) (others : List (Frame T)) (heard : Heard) (link : LinkState T) → (carry_from (oldest ∷ others) heard link).0 ≡ Ok heard
@@ -69,30 +69,30 @@ return_hears oldest others Lost link = refl
 
 -- a put, by whether a frame waits
 put_by : {T C : Type 0} (waits : C → List (Frame T)) (holding : Bool) (frame : Frame T) (answer : Result (Unit {0}) Full) (before after : RainState C) → held (waits before.below) ≡ holding
-    → Row (rains (singles waits)) before (row.Put frame answer ∷ []) after → weather_of after ≡ after_put holding (weather_of before)
+    → Row (rains (singles waits)) before (row.Put frame answer ∷ []) after → rain_marks after ≡ after_put holding (rain_marks before)
 put_by waits holding frame answer before after is (between, step, last) =
-    ap weather_of last
+    ap rain_marks last
     ∙ put_marks waits (held (waits before.below)) frame before between step.1.1
-    ∙ ap (λ holding. after_put holding (weather_of before)) is
+    ∙ ap (λ holding. after_put holding (rain_marks before)) is
 
 -- a send and a reply take a mark if they are accepted
 send_by : {T C : Type 0} (waits : C → List (Frame T)) (repeats : Option ℕ) (place : Result SenderPlace LinkRefusal) (load : Option T) (waiting : List (Frame T)) (book : List T) (link : LinkState T)
     (before after : RainState C) → first_load book link.sender.rest ≡ load → waits before.below ≡ waiting
     → Row (rains (singles waits)) before (if_joined repeats (send_puts_at place load link.sender waiting)) after
-    → weather_of after ≡ if_accepted taken (shown (λ _. Done) (joined_at repeats link (λ _. by_sender_to_hut link (send_at place book link.sender waiting)))).0 (weather_of before)
-send_by waits None place load waiting book link before after has is row = ap weather_of row
-send_by waits (Some n) (Err why) load waiting book link before after has is row = ap weather_of row
-send_by waits (Some n) (Ok place) None waiting book link before after has is row = rw has (ap weather_of row)
+    → rain_marks after ≡ marks_if_accepted marks_after_put (shown (λ _. Done) (joined_at repeats link (λ _. by_sender_to_hut link (send_at place book link.sender waiting)))).0 (rain_marks before)
+send_by waits None place load waiting book link before after has is row = ap rain_marks row
+send_by waits (Some n) (Err why) load waiting book link before after has is row = ap rain_marks row
+send_by waits (Some n) (Ok place) None waiting book link before after has is row = rw has (ap rain_marks row)
 send_by waits (Some n) (Ok place) (Some load) [] book link before after has is row = rw has (put_by waits false _ _ before after (ap held is) row)
 send_by waits (Some n) (Ok place) (Some load) (oldest ∷ others) book link before after has is row = rw has (put_by waits true _ _ before after (ap held is) row)
 
 reply_by : {T C : Type 0} (waits : C → List (Frame EmptyLoad)) (repeats : Option ℕ) (place : Result HutPlace LinkRefusal) (frame : Option (Frame T)) (waiting : List (Frame EmptyLoad)) (link : LinkState T)
     (before after : RainState C) → waits before.below ≡ waiting
     → Row (rains (singles waits)) before (if_joined repeats (reply_puts_at place frame waiting)) after
-    → weather_of after ≡ if_accepted taken (shown {T = T} (λ _. Done) (joined_at repeats link (λ _. by_hut_back link (reply_frame place frame link.hut waiting)))).0 (weather_of before)
-reply_by waits None place frame waiting link before after is row = ap weather_of row
-reply_by waits (Some n) (Err why) frame waiting link before after is row = ap weather_of row
-reply_by waits (Some n) (Ok place) None waiting link before after is row = ap weather_of row
+    → rain_marks after ≡ marks_if_accepted marks_after_put (shown {T = T} (λ _. Done) (joined_at repeats link (λ _. by_hut_back link (reply_frame place frame link.hut waiting)))).0 (rain_marks before)
+reply_by waits None place frame waiting link before after is row = ap rain_marks row
+reply_by waits (Some n) (Err why) frame waiting link before after is row = ap rain_marks row
+reply_by waits (Some n) (Ok place) None waiting link before after is row = ap rain_marks row
 reply_by waits (Some n) (Ok place) (Some frame) [] link before after is row = put_by waits false _ _ before after (ap held is) row
 reply_by waits (Some n) (Ok place) (Some frame) (oldest ∷ others) link before after is row = put_by waits true _ _ before after (ap held is) row
 
@@ -105,59 +105,59 @@ module _ {T C D : Type 0} (to_hut : C → List (Frame T)) (back : D → List (Fr
 
   -- answer, link and marks of one call
   together : (call : Call) (answer : Result (Answer T) LinkRefusal) (before after : LinkParts T (RainState C) (RainState D)) (heard : Heard)
-      → heard ≡ heard_by call (driven_of k l before)
+      → heard ≡ heard_by call (marked_link_of k l before)
       → (answer, plain k l after) ≡ made book heard call (plain k l before)
-      → weather_of after.to_hut ≡ to_hut_after call answer (weather_of before.to_hut)
-      → weather_of after.back ≡ back_after call answer (weather_of before.back)
-      → (record { call = call; answer = answer }, driven_of k l after) ≡ drive book call (driven_of k l before)
+      → rain_marks after.to_hut ≡ to_hut_marks call answer (rain_marks before.to_hut)
+      → rain_marks after.back ≡ back_marks call answer (rain_marks before.back)
+      → (record { call = call; answer = answer }, marked_link_of k l after) ≡ call_by_marks book call (marked_link_of k l before)
   together call answer before after heard by says one other =
       rw (one, other) refl
-      ∙ ap (drive_at call (driven_of k l before)) (says ∙ ap (λ heard. made book heard call (plain k l before)) by)
+      ∙ ap (call_by_marks_at call (marked_link_of k l before)) (says ∙ ap (λ heard. made book heard call (plain k l before)) by)
 
   -- one call
   decided : (call : Call) (answer : Result (Answer T) LinkRefusal) (before after : LinkParts T (RainState C) (RainState D))
       → Stepped k l book before (record { call = call; answer = answer }) after
-      → (record { call = call; answer = answer }, driven_of k l after) ≡ drive book call (driven_of k l before)
-  decided (call.Request start count) answer before after (says, one, other) = together (call.Request start count) answer before after Still refl says (ap weather_of one) (ap weather_of other)
+      → (record { call = call; answer = answer }, marked_link_of k l after) ≡ call_by_marks book call (marked_link_of k l before)
+  decided (call.Request start count) answer before after (says, one, other) = together (call.Request start count) answer before after Still refl says (ap rain_marks one) (ap rain_marks other)
   decided call.Send answer before after (says, one, other) =
       let marks =
       send_by to_hut before.repeats _ _ (to_hut before.to_hut.below) book (plain k l before) before.to_hut after.to_hut refl refl one
-      ∙ ap (λ made. if_accepted taken made.0 (weather_of before.to_hut)) (sym says) in
-      together call.Send answer before after Still refl says marks (ap weather_of other)
+      ∙ ap (λ made. marks_if_accepted marks_after_put made.0 (rain_marks before.to_hut)) (sym says) in
+      together call.Send answer before after Still refl says marks (ap rain_marks other)
   decided call.Reply answer before after (says, one, other) =
       let marks =
       reply_by back before.repeats _ _ (back before.back.below) (plain k l before) before.back after.back refl other
-      ∙ ap (λ made. if_accepted taken made.0 (weather_of before.back)) (sym says) in
-      together call.Reply answer before after Still refl says (ap weather_of one) marks
+      ∙ ap (λ made. marks_if_accepted marks_after_put made.0 (rain_marks before.back)) (sym says) in
+      together call.Reply answer before after Still refl says (ap rain_marks one) marks
   decided call.Carry answer before after (says, one, other) =
       let link = plain k l before in
-      let (same, weather) =
+      let (same, marks) =
       polled_by to_hut link (λ waiting heard. carry_from waiting heard link) before.repeats (to_hut before.to_hut.below) (choice answer) before.to_hut after.to_hut
       (λ heard. refl) (λ oldest others heard. carry_hears oldest others heard link) refl one in
       let made = says ∙ ap (shown Polled) same in
-      let marks = weather ∙ ap (λ made. if_accepted polled made.0 (weather_of before.to_hut)) (sym made) in
-      together call.Carry answer before after (heard_of before.to_hut.mark) refl made marks (ap weather_of other)
+      let marks = marks ∙ ap (λ made. marks_if_accepted marks_after_poll made.0 (rain_marks before.to_hut)) (sym made) in
+      together call.Carry answer before after (heard_by_mark before.to_hut.mark) refl made marks (ap rain_marks other)
   decided call.Return answer before after (says, one, other) =
       let link = plain k l before in
-      let (same, weather) =
+      let (same, marks) =
       polled_by back link (λ waiting heard. return_from waiting heard link) before.repeats (back before.back.below) (choice answer) before.back after.back
       (λ heard. refl) (λ oldest others heard. return_hears oldest others heard link) refl other in
       let made = says ∙ ap (shown Polled) same in
-      let marks = weather ∙ ap (λ made. if_accepted polled made.0 (weather_of before.back)) (sym made) in
-      together call.Return answer before after (heard_of before.back.mark) refl made (ap weather_of one) marks
-  decided call.Tell answer before after (says, one, other) = together call.Tell answer before after Still refl says (ap weather_of one) (ap weather_of other)
-  decided call.Retry answer before after (says, one, other) = together call.Retry answer before after Still refl says (ap weather_of one) (ap weather_of other)
-  decided call.Abandon answer before after (says, one, other) = together call.Abandon answer before after Still refl says (ap weather_of one) (ap weather_of other)
-  decided call.Confirm answer before after (says, one, other) = together call.Confirm answer before after Still refl says (ap weather_of one) (ap weather_of other)
-  decided call.Part answer before after (says, one, other) = together call.Part answer before after Still refl says (ap weather_of one) (ap weather_of other)
-  decided call.Break answer before after (says, one, other) = together call.Break answer before after Still refl says (ap weather_of one) (ap weather_of other)
-  decided call.Meet answer before after (says, one, other) = together call.Meet answer before after Still refl says (ap weather_of one) (ap weather_of other)
+      let marks = marks ∙ ap (λ made. marks_if_accepted marks_after_poll made.0 (rain_marks before.back)) (sym made) in
+      together call.Return answer before after (heard_by_mark before.back.mark) refl made (ap rain_marks one) marks
+  decided call.Tell answer before after (says, one, other) = together call.Tell answer before after Still refl says (ap rain_marks one) (ap rain_marks other)
+  decided call.Retry answer before after (says, one, other) = together call.Retry answer before after Still refl says (ap rain_marks one) (ap rain_marks other)
+  decided call.Abandon answer before after (says, one, other) = together call.Abandon answer before after Still refl says (ap rain_marks one) (ap rain_marks other)
+  decided call.Confirm answer before after (says, one, other) = together call.Confirm answer before after Still refl says (ap rain_marks one) (ap rain_marks other)
+  decided call.Part answer before after (says, one, other) = together call.Part answer before after Still refl says (ap rain_marks one) (ap rain_marks other)
+  decided call.Break answer before after (says, one, other) = together call.Break answer before after Still refl says (ap rain_marks one) (ap rain_marks other)
+  decided call.Meet answer before after (says, one, other) = together call.Meet answer before after Still refl says (ap rain_marks one) (ap rain_marks other)
 
   -- calls one after another: what is logged and left is what the marks decide
   pub runs_decided : (before after : LinkParts T (RainState C) (RainState D)) (events : List (Event T)) → Runs k l book before events after
-      → (events, driven_of k l after) ≡ drives book (map call_of events) (driven_of k l before)
-  runs_decided before after [] runs = ap (λ link. ([], driven_of k l link)) runs
+      → (events, marked_link_of k l after) ≡ calls_by_marks book (map call_of events) (marked_link_of k l before)
+  runs_decided before after [] runs = ap (λ link. ([], marked_link_of k l link)) runs
   runs_decided before after (event ∷ events) (between, stepped, runs) =
       let first = decided event.call event.answer before between stepped in
       let others = runs_decided between after events runs in
-      ap (logged event) others ∙ ap (λ step. logged step.0 (drives book (map call_of events) step.1)) first
+      ap (logged event) others ∙ ap (λ step. logged step.0 (calls_by_marks book (map call_of events) step.1)) first
