@@ -57,6 +57,6 @@ module _ {T : Type 0} (kind : Ghosts T) (section : Section) where
   pub chain_covers : (room place : ℕ) (octets : List ℕ) (parts : List (PartState T)) → Chain room place octets parts → (flat_map (λ part. part.octets) parts ≡ octets) × InPlaces place parts
   chain_covers room place octets [] chain = (sym chain, tt)
   chain_covers room place octets (part ∷ parts) (left, rest, more, front, chain) =
-      let cut = record_cut kind section place octets part rest front in
+      let cut = (record_cut kind section place octets part rest front).1 in
       let others = chain_covers left (place + length part.octets) rest parts chain in
       (ap (λ rest. part.octets ++ rest) others.0 ∙ cut.1, (cut.0, others.1))

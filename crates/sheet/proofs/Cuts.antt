@@ -1,7 +1,6 @@
 -- How records are cut off the front of a section's octets.
 use Rattle.std.proofs.Common.{◌≡◌, ℕ, zero, suc, ◌+◌, ◌-◌, ◌<◌, ◌≢◌, List, [], ◌∷◌, ◌++◌, length, Ok, Err, Result, Some, None, Option, true, false, Bool, nat_le, ◌==◌, take, drop, cond, refl, ap, sym, ◌∙◌, rules, arith}
 use Rattle.std.proofs.lemmas.List.{take-append-drop, append_assoc}
-use Rattle.std.specs.Str.{byte}
 use Rattle.loads.specs.declared.faults.Fault.{Fault}
 use Rattle.loads.specs.declared.kinds.Load.{Ghosts}
 use Rattle.loads.specs.Octets.{field}
@@ -16,57 +15,66 @@ use Rattle.sheet.specs.declared.parts.Way.{Way}
 use Rattle.sheet.specs.declared.sections.Section.{Section}
 use Rattle.sheet.specs.declared.sections.Section.TheVariants as section
 use Rattle.sheet.specs.Faults.{fault_at}
-use Rattle.sheet.specs.Parts.{PartState, a_call}
-use Rattle.sheet.specs.Records.{front_of, load_front, mark_front, letter_front, plain_call, request_record}
+use Rattle.sheet.specs.Parts.{PartState, Meaning, a_load, a_mark, a_call}
+use Rattle.sheet.specs.Records.{front_of, load_front, mark_front, letter_front, plain_call, request_letter, request_record}
 use Rattle.sheet.specs.Sections.{refusal_of, record_of, before, records_read}
 
 module _ {T : Type 0} where
+  -- a meaning that a section has
+  abbrev pub Within : Section → Meaning T → Type 0
+  Within section.Book meaning = (load : T) × (meaning ≡ a_load load)
+  Within (section.Marks way) meaning = (mark : Mark) × (meaning ≡ a_mark way mark)
+  Within section.Calls meaning = (call : Call) × (meaning ≡ a_call call)
+
   -- a record starts at the place, and its octets are the front of these octets
   abbrev pub Cut : ℕ → List ℕ → PartState T → List ℕ → Type 0
-  Cut place octets part rest = (part.place ≡ place) × (part.octets ++ rest ≡ octets)
+  Cut place octets part behind = (part.place ≡ place) × (part.octets ++ behind ≡ octets)
 
-  loaded_cut : (place : ℕ) (octets rest : List ℕ) (read : Result T Fault) (part : PartState T) (behind : List ℕ)
-      → load_front place octets read rest ≡ Ok (part, behind) → Cut place (octets ++ rest) part behind
-  loaded_cut place octets rest (Ok load) part behind is = search rules
-  loaded_cut place octets rest (Err fault) part behind is = search rules
+  -- by the answer of the reader: what the record means, and that it is cut off
+  pub load_cut : (place : ℕ) (octets rest behind : List ℕ) (read : Result T Fault) (part : PartState T) → load_front place octets read rest ≡ Ok (part, behind)
+      → (load : T) × (part.meaning ≡ a_load load) × (read ≡ Ok load) × (rest ≡ behind) × (part.place ≡ place) × (part.octets ++ behind ≡ octets ++ rest)
+  load_cut place octets rest behind (Ok load) part is = (load, search rules, refl, search rules, search rules, search rules)
+  load_cut place octets rest behind (Err fault) part is = search rules
 
-  marked_cut : (way : Way) (place octet : ℕ) (read : Result Mark NotAMark) (rest : List ℕ) (part : PartState T) (behind : List ℕ)
-      → mark_front way place octet read rest ≡ Ok (part, behind) → Cut place (octet ∷ rest) part behind
-  marked_cut way place octet (Ok mark) rest part behind is = search rules
-  marked_cut way place octet (Err above) rest part behind is = search rules
-
-  lettered_cut : (place letter : ℕ) (call : Option Call) (rest : List ℕ) (part : PartState T) (behind : List ℕ)
-      → letter_front place letter call rest ≡ Ok (part, behind) → Cut place (letter ∷ rest) part behind
-  lettered_cut place letter (Some call) rest part behind is = search rules
-  lettered_cut place letter None rest part behind is = search rules
+  pub mark_cut : (way : Way) (place octet : ℕ) (rest behind : List ℕ) (read : Result Mark NotAMark) (part : PartState T) → mark_front way place octet read rest ≡ Ok (part, behind)
+      → (mark : Mark) × (part.meaning ≡ a_mark way mark) × (read ≡ Ok mark) × (rest ≡ behind) × (part.place ≡ place) × (part.octets ++ behind ≡ octet ∷ rest)
+  mark_cut way place octet rest behind (Ok mark) part is = (mark, search rules, refl, search rules, search rules, search rules)
+  mark_cut way place octet rest behind (Err above) part is = search rules
 
   -- by whether the operands are whole
-  operands_cut : (whole : Bool) (place : ℕ) (octets rest : List ℕ) (call : Call) (part : PartState T) (behind : List ℕ)
-      → cond whole (front_of place octets (a_call call) rest) (Err (fault_at BadCall place)) ≡ Ok (part, behind) → Cut place (octets ++ rest) part behind
-  operands_cut true place octets rest call part behind is = search rules
-  operands_cut false place octets rest call part behind is = search rules
+  operands_cut : (whole : Bool) (place : ℕ) (octets rest behind : List ℕ) (call : Call) (part : PartState T)
+      → cond whole (front_of place octets (a_call call) rest) (Err (fault_at BadCall place)) ≡ Ok (part, behind) → Within section.Calls part.meaning × Cut place (octets ++ rest) part behind
+  operands_cut true place octets rest behind call part is = ((call, search rules), search rules)
+  operands_cut false place octets rest behind call part is = search rules
 
-  request_cut : (place : ℕ) (octets : List ℕ) (part : PartState T) (behind : List ℕ)
-      → request_record place octets ≡ Ok (part, behind) → Cut place octets part behind
-  request_cut place octets part behind is =
-      let cut = operands_cut (nat_le 5 (length octets)) place (take 5 octets) (drop 5 octets) (Request (field 1 2 octets) (field 3 2 octets)) part behind is in
-      (cut.0, cut.1 ∙ take-append-drop 5 octets)
+  -- by whether the letter is that of a call
+  letter_cut : (place octet : ℕ) (call : Option Call) (rest behind : List ℕ) (part : PartState T)
+      → letter_front place octet call rest ≡ Ok (part, behind) → Within section.Calls part.meaning × Cut place (octet ∷ rest) part behind
+  letter_cut place octet (Some call) rest behind part is = ((call, search rules), search rules)
+  letter_cut place octet None rest behind part is = search rules
 
   -- by whether the letter is that of a request
-  call_cut : (asks : Bool) (place letter : ℕ) (octets : List ℕ) (part : PartState T) (behind : List ℕ)
-      → cond asks (request_record place (letter ∷ octets)) (letter_front place letter (plain_call letter) octets) ≡ Ok (part, behind) → Cut place (letter ∷ octets) part behind
-  call_cut true place letter octets part behind is = request_cut place (letter ∷ octets) part behind is
-  call_cut false place letter octets part behind is = lettered_cut place letter (plain_call letter) octets part behind is
+  call_cut : (asks : Bool) (place octet : ℕ) (octets behind : List ℕ) (part : PartState T)
+      → cond asks (request_record place (octet ∷ octets)) (letter_front place octet (plain_call octet) octets) ≡ Ok (part, behind)
+      → Within section.Calls part.meaning × Cut place (octet ∷ octets) part behind
+  call_cut true place octet octets behind part is =
+      let all = octet ∷ octets in
+      let (within, cut) = operands_cut (nat_le 5 (length all)) place (take 5 all) (drop 5 all) behind (Request (field 1 2 all) (field 3 2 all)) part is in
+      (within, (cut.0, cut.1 ∙ take-append-drop 5 all))
+  call_cut false place octet octets behind part is = letter_cut place octet (plain_call octet) octets behind part is
 
+  -- a record means what its section has, and is cut off the front
   pub record_cut : (kind : Ghosts T) (section : Section) (place : ℕ) (octets : List ℕ) (part : PartState T) (behind : List ℕ)
-      → record_of kind section place octets ≡ Ok (part, behind) → Cut place octets part behind
+      → record_of kind section place octets ≡ Ok (part, behind) → Within section part.meaning × Cut place octets part behind
   record_cut kind section.Book place octets part behind is =
-      let cut = loaded_cut place (take kind.SIZE octets) (drop kind.SIZE octets) (kind.reads (take kind.SIZE octets)) part behind is in
-      (cut.0, cut.1 ∙ take-append-drop kind.SIZE octets)
+      let (load, means, reads, rest, placed, cut) = load_cut place (take kind.SIZE octets) (drop kind.SIZE octets) behind (kind.reads (take kind.SIZE octets)) part is in
+      ((load, means), (placed, cut ∙ take-append-drop kind.SIZE octets))
   record_cut kind (section.Marks way) place [] part behind is = search rules
-  record_cut kind (section.Marks way) place (octet ∷ octets) part behind is = marked_cut way place octet (mark_read octet) octets part behind is
+  record_cut kind (section.Marks way) place (octet ∷ octets) part behind is =
+      let (mark, means, reads, rest, placed, cut) = mark_cut way place octet octets behind (mark_read octet) part is in
+      ((mark, means), (placed, cut))
   record_cut kind section.Calls place [] part behind is = search rules
-  record_cut kind section.Calls place (letter ∷ octets) part behind is = call_cut (letter == byte "Q") place letter octets part behind is
+  record_cut kind section.Calls place (octet ∷ octets) part behind is = call_cut (octet == request_letter) place octet octets behind part is
 
   -- records before records
   pub before_before : (parts others : List (PartState T)) (read : Result (List (PartState T)) SheetFault) → before parts (before others read) ≡ before (parts ++ others) read

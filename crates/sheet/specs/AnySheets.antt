@@ -21,6 +21,7 @@ abbrev pub sheet_by_kind : LoadKind → Layout → List ℕ → Result AnySheet 
 sheet_by_kind Reading layout octets = as_any Readings (sheet_read readings layout octets)
 sheet_by_kind Piece layout octets = as_any Pieces (sheet_read pieces layout octets)
 
+-- the sheet of octets whose layout was read
 abbrev pub sheet_by_layout : Result Layout SheetFault → List ℕ → Result AnySheet SheetFault
 sheet_by_layout (Ok layout) octets = sheet_by_kind layout.kind layout octets
 sheet_by_layout (Err fault) octets = Err fault

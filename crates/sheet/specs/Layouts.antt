@@ -11,29 +11,33 @@ use Rattle.sheet.specs.declared.layouts.LoadKind.TheVariants.{Reading, Piece}
 use Rattle.sheet.specs.declared.layouts.Layout.{Layout}
 use Rattle.sheet.specs.Faults.{fault_at}
 
--- the octets of a trailer, and the most octets of a sheet
+-- the octets of a trailer
 abbrev pub trailer_size : ℕ
 trailer_size = 18
 
+-- the most octets of a sheet
 abbrev pub most_octets : ℕ
 most_octets = 16384
 
--- where the trailer starts, and its octets
+-- where the trailer starts
 abbrev pub trailer_place : List ℕ → ℕ
 trailer_place octets = length octets - trailer_size
 
+-- the octets of the trailer
 abbrev pub trailer_of : List ℕ → List ℕ
 trailer_of octets = drop (trailer_place octets) octets
 
--- by a trailer: the distance back from its first octet to the start of a list; the octet kind; the octet repeats
+-- the distance that a trailer has back from its first octet to the start of a list: 0 the book, 1 K's marks, 2 L's marks, 3 calls
 abbrev pub distance : ℕ → List ℕ → ℕ
 distance list trailer = field (4 * list) 4 trailer
 
-abbrev pub kind_octet : List ℕ → ℕ
-kind_octet trailer = slice_index trailer 16
+-- where in a trailer its octet kind is
+abbrev pub kind_at : ℕ
+kind_at = 16
 
-abbrev pub repeats_octet : List ℕ → ℕ
-repeats_octet trailer = slice_index trailer 17
+-- and its octet repeats
+abbrev pub repeats_at : ℕ
+repeats_at = 17
 
 -- the kind of load that an octet names
 abbrev pub load_kind : ℕ → Option LoadKind
@@ -51,22 +55,23 @@ distances_fit place trailer =
 abbrev pub layout_of : LoadKind → ℕ → List ℕ → Layout
 layout_of kind place trailer = record {
   kind = kind;
-  repeats = repeats_octet trailer;
+  repeats = slice_index trailer repeats_at;
   to_hut = place - distance 1 trailer;
   back = place - distance 2 trailer;
   calls = place - distance 3 trailer;
   trailer = place;
 }
 
--- by the kind, the repeats and the distances of a trailer at a place: each is turned down at its octet
+-- by the kind, the repeats and the distances of a trailer at a place: the first two are turned down at their octets, distances
+-- where the trailer starts
 abbrev pub settings_read : Option LoadKind → ℕ → List ℕ → Result Layout SheetFault
-settings_read None place trailer = Err (fault_at BadSetting (place + 16))
+settings_read None place trailer = Err (fault_at BadSetting (place + kind_at))
 settings_read (Some kind) place trailer =
-    cond (nat_lt most_repeats (repeats_octet trailer)) (Err (fault_at BadSetting (place + 17)))
+    cond (nat_lt most_repeats (slice_index trailer repeats_at)) (Err (fault_at BadSetting (place + repeats_at)))
     (cond (distances_fit place trailer) (Ok (layout_of kind place trailer)) (Err (fault_at BadDistances place)))
 
 -- the layout of a sheet, or why it is turned down for its size or its trailer
 abbrev pub layout_reads : List ℕ → Result Layout SheetFault
 layout_reads octets =
     cond (nat_lt (length octets) trailer_size || nat_lt most_octets (length octets)) (Err (fault_at WrongSize (length octets)))
-    (settings_read (load_kind (kind_octet (trailer_of octets))) (trailer_place octets) (trailer_of octets))
+    (settings_read (load_kind (slice_index (trailer_of octets) kind_at)) (trailer_place octets) (trailer_of octets))

@@ -27,12 +27,13 @@ module _ {T : Type 0} where
   part_state (part.Mark place octets way mark) = record { place = place; octets = octets.now; meaning = a_mark way mark }
   part_state (part.Call place octets call) = record { place = place; octets = octets.now; meaning = a_call call }
 
-  -- what a meaning has: a load; a mark for frames of one way; a call
+  -- the load that a meaning has, if it is one of the book
   abbrev pub load_in : Meaning T → List T
   load_in (a_load load) = load ∷ []
   load_in (a_mark way mark) = []
   load_in (a_call call) = []
 
+  -- the mark that it has for frames of one way
   abbrev pub mark_in : Way → Meaning T → List Mark
   mark_in way (a_load load) = []
   mark_in ToHut (a_mark ToHut mark) = mark ∷ []
@@ -41,17 +42,20 @@ module _ {T : Type 0} where
   mark_in Back (a_mark Back mark) = mark ∷ []
   mark_in way (a_call call) = []
 
+  -- the call that it has
   abbrev pub call_in : Meaning T → List Call
   call_in (a_load load) = []
   call_in (a_mark way mark) = []
   call_in (a_call call) = call ∷ []
 
-  -- and what the parts of a sheet have, in order: the book's loads, the marks of one way, the calls
+  -- the loads of parts, in order
   abbrev pub loads_in : List (PartState T) → List T
   loads_in parts = flat_map (λ part. load_in part.meaning) parts
 
+  -- their marks for frames of one way
   abbrev pub marks_in : Way → List (PartState T) → List Mark
   marks_in way parts = flat_map (λ part. mark_in way part.meaning) parts
 
+  -- their calls
   abbrev pub calls_in : List (PartState T) → List Call
   calls_in parts = flat_map (λ part. call_in part.meaning) parts

@@ -1,4 +1,4 @@
--- The lists of a sheet, each read record by record.
+-- The sections of a sheet, each read record by record.
 use Rattle.std.specs.Prelude.{ℕ, zero, suc, ◌+◌, List, [], ◌∷◌, ◌++◌, length, Ok, Err, Result}
 use Rattle.loads.specs.declared.kinds.Load.{Ghosts}
 use Rattle.sheet.specs.declared.faults.SheetFault.{SheetFault}
@@ -10,11 +10,16 @@ use Rattle.sheet.specs.Faults.{fault_at}
 use Rattle.sheet.specs.Parts.{PartState}
 use Rattle.sheet.specs.Records.{Front, book_record, mark_record, call_record}
 
--- the most records of a list: in a book, where each load has octets, there is room for all that fit
+-- the most calls of a sheet
+abbrev pub most_calls : ℕ
+most_calls = 1024
+
+-- the most records of a section: each load of a book has octets, so there are no more loads than octets; marks are as many as a
+-- rain takes
 abbrev pub room_of : Section → List ℕ → ℕ
 room_of section.Book octets = length octets
 room_of (section.Marks way) octets = 64
-room_of section.Calls octets = 1024
+room_of section.Calls octets = most_calls
 
 -- what a record that cannot be read, or one too many, is turned down for
 abbrev pub refusal_of : Section → SheetRefusal
@@ -47,6 +52,6 @@ module _ {T : Type 0} where
       then_records (record_of kind section place (octet ∷ octets))
       (λ part rest. records_read kind section room (place + length part.octets) rest)
 
-  -- a whole list
+  -- a whole section
   abbrev pub section_reads : Ghosts T → Section → ℕ → List ℕ → Result (List (PartState T)) SheetFault
   section_reads kind section place octets = records_read kind section (room_of section octets) place octets

@@ -46,6 +46,7 @@ module _ {T : Type 0} where
     calls = calls_in parts;
   }
 
+  -- the sheet of parts that were read
   abbrev pub with_repeats : ℕ → Result (List (PartState T)) SheetFault → Result (SheetParts T) SheetFault
   with_repeats repeats (Ok parts) = Ok (sheet_of repeats parts)
   with_repeats repeats (Err fault) = Err fault

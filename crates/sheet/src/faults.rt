@@ -1,11 +1,11 @@
 // Why a sheet is turned down, by fixed numbers, and where.
-ghost use Rattle.std.specs.Prelude.{◌≡◌, Some};
+ghost use Rattle.std.specs.Prelude.{◌≡◌, Some, IfOk, string_bytes};
 ghost use Rattle.std.proofs.Common.{rules};
 ghost use Rattle.sheet.specs.Faults.{number_of, fault_text, error_text};
 ghost use Rattle.sheet.specs.declared.faults.ReadError.TheVariants.{Refused, NoMemory};
 
 use loads::Refusal;
-use std::alloc::{AllocError, AllocFailed};
+use std::alloc::{AllocError, AllocFailed, Global};
 use std::error::Error;
 use std::fmt;
 
@@ -43,7 +43,7 @@ pub struct SheetFault {
     pub place: usize,
 }
 
-// The printed line of a sheet that is turned down. Open: whether all of it can be written.
+// The text of a sheet that is turned down. Open: whether all of it can be written.
 impl fmt::Display for SheetFault {
     ghost output = { λ fault. Some (fault_text fault) };
 
@@ -56,7 +56,7 @@ impl fmt::Display for SheetFault {
 
 impl Error for SheetFault {}
 
-// Why there is no sheet: it is turned down, or what it says found no memory.
+// Why there is no sheet: it is turned down, or there is no memory for its parts.
 #[derive(Clone, Copy, Debug, PartialEq, Eq)]
 pub enum ReadError {
     Refused(SheetFault),
@@ -98,6 +98,13 @@ impl<T: Drop> From<AllocFailed<T>> for ReadError {
     ghost from_gives = { λ _ r. r ≡ NoMemory };
 
     fn from(_refused: AllocFailed<T>) -> ReadError {
-        AllocError.into()
+        ReadError::NoMemory
     }
+}
+
+// The printed line of a sheet that is turned down, without its end. Open: whether there is memory for it.
+pub fn fault_line(heap: Global, fault: SheetFault) -> Result<String, AllocError>
+    ensures made { IfOk result (λ text. string_bytes text ≡ fault_text fault) }
+{
+    fault.to_string(heap)
 }

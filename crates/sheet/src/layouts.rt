@@ -7,7 +7,7 @@ use crate::faults::{SheetFault, SheetRefusal};
 use link::MOST_REPEATS;
 use loads::{Load, Piece, Reading};
 
-// The octets of a trailer: four distances of four octets, a kind and the repeats.
+// How many octets a trailer has: four distances of four octets, a kind and the repeats.
 const TRAILER_SIZE: usize = 18;
 
 // The most octets of a sheet.
@@ -20,7 +20,7 @@ pub(crate) enum LoadKind {
     Piece,
 }
 
-// What a trailer says: the settings, and where each list starts and the trailer itself; the book starts at 0.
+// What a trailer says: the settings, and where K's marks, L's marks, the calls and the trailer start. The book starts at 0.
 #[derive(Clone, Copy)]
 pub(crate) struct Layout {
     pub(crate) kind: LoadKind,
@@ -61,7 +61,7 @@ fn distances_fit(place: usize, trailer: &[u8; TRAILER_SIZE]) -> bool
         && distance(trailer, 3) <= distance(trailer, 2)
 }
 
-// The four sections of a sheet, as octets.
+// The octets of the four sections of a sheet.
 #[derive(Drop)]
 pub(crate) struct Sections<'s> {
     pub(crate) book: &'s [u8],

@@ -11,7 +11,7 @@ mod sections;
 mod sheets;
 
 pub use anysheets::AnySheet;
-pub use faults::{ReadError, SheetFault, SheetRefusal};
+pub use faults::{ReadError, SheetFault, SheetRefusal, fault_line};
 pub use layouts::MOST_OCTETS;
 pub use parts::{Part, Way};
 pub use sheets::Sheet;

@@ -16,13 +16,15 @@ pub(crate) fn book_record<'s, T: Load>(
 ) -> Result<(Part<'s, T>, &'s [u8]), SheetFault>
     ensures cases { MatchResult result (λ front. book_record_of T.Load place octets.now ≡ Ok (part_state front.0, front.1.now)) (λ fault. book_record_of T.Load place octets.now ≡ Err fault) }
 {
-    let refusal = SheetRefusal::NoLoad;
-    let mut rest = octets;
-    let Some(octets) = rest.split_off(..T::SIZE) else {
-        return Err(SheetFault { refusal, place });
+    let fault = SheetFault {
+        refusal: SheetRefusal::NoLoad,
+        place,
+    };
+    let Some((octets, rest)) = octets.split_at_checked(T::SIZE) else {
+        return Err(fault);
     };
     let Ok(load) = T::read(octets) else {
-        return Err(SheetFault { refusal, place });
+        return Err(fault);
     };
     Ok((
         Part::BookRecord {
@@ -42,12 +44,15 @@ pub(crate) fn mark_record<'s, T>(
 ) -> Result<(Part<'s, T>, &'s [u8]), SheetFault>
     ensures cases { MatchResult result (λ front. mark_record_of way place octets.now ≡ Ok (part_state front.0, front.1.now)) (λ fault. mark_record_of {T = T} way place octets.now ≡ Err fault) }
 {
-    let refusal = SheetRefusal::BadMark;
+    let fault = SheetFault {
+        refusal: SheetRefusal::BadMark,
+        place,
+    };
     let [octet, rest @ ..] = octets else {
-        return Err(SheetFault { refusal, place });
+        return Err(fault);
     };
     let Ok(mark) = Mark::try_from(*octet) else {
-        return Err(SheetFault { refusal, place });
+        return Err(fault);
     };
     let octets = &octets[..1];
     Ok((
@@ -122,15 +127,18 @@ pub(crate) fn call_record<'s, T>(
 ) -> Result<(Part<'s, T>, &'s [u8]), SheetFault>
     ensures cases { MatchResult result (λ front. call_record_of place octets.now ≡ Ok (part_state front.0, front.1.now)) (λ fault. call_record_of {T = T} place octets.now ≡ Err fault) }
 {
-    let refusal = SheetRefusal::BadCall;
+    let fault = SheetFault {
+        refusal: SheetRefusal::BadCall,
+        place,
+    };
     let [letter, rest @ ..] = octets else {
-        return Err(SheetFault { refusal, place });
+        return Err(fault);
     };
     match char::from(*letter) {
         'Q' => request_record(place, octets),
         letter => {
             let Some(call) = plain_call(letter) else {
-                return Err(SheetFault { refusal, place });
+                return Err(fault);
             };
             let octets = &octets[..1];
             Ok((

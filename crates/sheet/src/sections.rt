@@ -1,4 +1,4 @@
-// The four lists of a sheet, each read record by record.
+// The sections of a sheet, each read record by record.
 ghost use Rattle.std.specs.Prelude.{◌≡◌, ◌+◌, ◌<◌, ◌^◌, ◌++◌, length, map, Ok, Err, IfErr, MatchResult, vec_items};
 ghost use Rattle.sheet.specs.Parts.{part_state};
 ghost use Rattle.sheet.specs.declared.faults.ReadError.TheVariants.{NoMemory};
@@ -14,7 +14,7 @@ use loads::Load;
 // The most calls of a sheet.
 const MOST_CALLS: usize = 1024;
 
-// Which of the lists of a sheet.
+// A kind of section: the book, the marks of one way, or the calls.
 #[derive(Clone, Copy)]
 pub(crate) enum Section {
     Book,
@@ -23,7 +23,7 @@ pub(crate) enum Section {
 }
 
 impl Section {
-    // The most records of the section; a book has no more of them than octets.
+    // The most records of the section. Each load of a book has octets, so there are no more loads than octets.
     fn room(self, octets: &[u8]) -> usize
         ensures answer { result ≡ room_of self octets.now }
     {

@@ -88,7 +88,7 @@ impl<'s, T> Sheet<'s, T> {
     }
 }
 
-// The calls among parts.
+// The calls among parts. Open: whether there is memory for them.
 fn calls_among<'s, T>(heap: Global, parts: &[Part<'s, T>]) -> Result<Vec<Call>, AllocError>
     ensures made { IfOk result (λ calls. vec_items calls ≡ calls_in (map part_state parts.now)) }
     ensures memory { IfErr result (λ _. 0 < length parts.now) }

@@ -103,13 +103,14 @@ module _ {T : Type 0} where
   heard_by call.Break before = Still
   heard_by call.Meet before = Still
 
-  -- one call: what it answers, and what it leaves
+  -- a call that answered so and left this link, with the marks that it leaves
   abbrev pub call_by_marks_at : Call → MarkedLink T → Result (Answer T) LinkRefusal × LinkState T → Event T × MarkedLink T
   call_by_marks_at call before (answer, after) = (
     record { call = call; answer = answer },
     record { link = after; to_hut = to_hut_marks call answer before.to_hut; back = back_marks call answer before.back },
   )
 
+  -- one call: what it answers, and what it leaves
   abbrev pub call_by_marks : List T → Call → MarkedLink T → Event T × MarkedLink T
   call_by_marks book call before = call_by_marks_at call before (made book (heard_by call before) call before.link)
 

@@ -5,5 +5,5 @@
 mod prints;
 mod runs;
 
-pub use prints::sheet_lines;
+pub use prints::{input_limit, sheet_lines};
 pub use runs::{run_by_marks, sheet_events};

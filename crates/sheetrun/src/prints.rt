@@ -1,16 +1,25 @@
 // All that a sheet prints: a line for each call, or one that says why it is turned down.
-ghost use Rattle.std.specs.Prelude.{◌≡◌, IfOk, string_bytes};
+ghost use Rattle.std.specs.Prelude.{◌≡◌, ◌+◌, IfOk, string_bytes};
 ghost use Rattle.sheet.specs.AnySheets.{sheet_reads};
-ghost use Rattle.sheetrun.specs.Prints.{event_lines as lines_of, sheet_prints, TruthfulPrints};
+ghost use Rattle.sheet.specs.Faults.{fault_text};
+ghost use Rattle.sheet.specs.Layouts.{most_octets};
+ghost use Rattle.sheetrun.specs.Prints.{line, event_lines as lines_of, events_of, sheet_prints, TruthfulRun, TruthfulPrints};
 
 use crate::runs::sheet_events;
 use link::Event;
 use linktext::call_line;
 use loads::Load;
-use sheet::{AnySheet, ReadError};
+use sheet::{AnySheet, MOST_OCTETS, ReadError, Sheet, SheetFault, fault_line};
 use std::alloc::{AllocError, Global};
 
-// A line for each call with its answer.
+// The most octets to read as a sheet: one more than it may have, so that a longer input is seen to be too long.
+pub fn input_limit() -> usize
+    ensures answer { result ≡ most_octets + 1 }
+{
+    MOST_OCTETS + 1
+}
+
+// A line for each call with its answer. Open: whether there is memory for them.
 fn event_lines<T: Load>(heap: Global, events: &[Event<T>]) -> Result<String, AllocError>
     ensures made { IfOk result (λ text. string_bytes text ≡ lines_of T.Load events.now) }
 {
@@ -22,15 +31,32 @@ fn event_lines<T: Load>(heap: Global, events: &[Event<T>]) -> Result<String, All
     Ok(text)
 }
 
+// What the run of a sheet prints. Open: whether there is memory for it.
+fn run_lines<'s, T: Load>(heap: Global, sheet: &Sheet<'s, T>) -> Result<String, AllocError>
+    ensures made { IfOk result (λ text. string_bytes text ≡ lines_of T.Load (events_of sheet.now)) }
+    ensures law { IfOk result (λ _. TruthfulRun sheet.now) }
+{
+    event_lines(heap, &sheet_events(heap, sheet)?)
+}
+
+// What a sheet that is turned down prints. Open: whether there is memory for it.
+fn refused_line(heap: Global, fault: SheetFault) -> Result<String, AllocError>
+    ensures made { IfOk result (λ text. string_bytes text ≡ line (fault_text fault)) }
+{
+    let mut text = fault_line(heap, fault)?;
+    text.push('\n')?;
+    Ok(text)
+}
+
 // All that the octets of a sheet print. Open: whether there is memory for it.
 pub fn sheet_lines(heap: Global, octets: &[u8]) -> Result<String, AllocError>
     ensures made { IfOk result (λ text. string_bytes text ≡ sheet_prints octets.now) }
     ensures law { IfOk result (λ _. TruthfulPrints (sheet_reads octets.now)) }
 {
     match AnySheet::read(heap, octets) {
-        Ok(AnySheet::Readings(sheet)) => event_lines(heap, &sheet_events(heap, &sheet)?),
-        Ok(AnySheet::Pieces(sheet)) => event_lines(heap, &sheet_events(heap, &sheet)?),
-        Err(ReadError::Refused(fault)) => format!(in heap; "{fault}\n"),
+        Ok(AnySheet::Readings(sheet)) => run_lines(heap, &sheet),
+        Ok(AnySheet::Pieces(sheet)) => run_lines(heap, &sheet),
+        Err(ReadError::Refused(fault)) => refused_line(heap, fault),
         Err(ReadError::NoMemory) => Err(AllocError),
     }
 }

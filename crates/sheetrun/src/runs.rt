@@ -65,7 +65,7 @@ pub fn sheet_events<'s, T: Load>(
 {
     let mut link = joined_link(sheet);
     let calls = sheet.calls();
-    // what no call of the sheet writes to the log would show
+    // fills the log; the run writes over all of it
     let unwritten = Event {
         call: Call::Meet,
         answer: Ok(Answer::Done),

@@ -15,7 +15,7 @@ returns-in_err-part g c =
 
 pub overflow_add-place : goal.overflow_add-place
 overflow_add-place g c =
-    let cut = record_cut g.T.Load c.args.section c.loop-rest.place c.loop-rest.rest.now _ _ c.in_ok-part.ensures.cases in
+    let cut = (record_cut g.T.Load c.args.section c.loop-rest.place c.loop-rest.rest.now _ _ c.in_ok-part.ensures.cases).1 in
     grind (arith, common_steps)
 
 pub loop-rest-smaller : goal.loop-rest-smaller
@@ -23,7 +23,7 @@ loop-rest-smaller g c = omega arith
 
 pub loop-rest-preserved : goal.loop-rest-preserved
 loop-rest-preserved g c =
-    let cut = record_cut g.T.Load c.args.section c.loop-rest.place c.loop-rest.rest.now _ _ c.in_ok-part.ensures.cases in
+    let cut = (record_cut g.T.Load c.args.section c.loop-rest.place c.loop-rest.rest.now _ _ c.in_ok-part.ensures.cases).1 in
     record {
       reads = rw (c.octets.ensures.answer, c.in_ok-push.ensures.items, map_push part_state c.loop-rest.parts.items c.in_ok-part.part)
           (read_more g.T.Load c.args.section c.loop-rest.room c.loop-rest.place c.loop-rest.rest.now _ _ _ _ c.loop-rest.invariant.reads (search rules) c.if-room-eq0.false c.in_ok-part.ensures.cases);
