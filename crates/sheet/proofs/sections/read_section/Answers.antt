@@ -24,9 +24,9 @@ loop-rest-smaller g c = omega arith
 pub loop-rest-preserved : goal.loop-rest-preserved
 loop-rest-preserved g c =
     let cut = (record_cut g.T.Load c.args.section c.loop-rest.place c.loop-rest.rest.now _ _ c.in_ok-part.ensures.cases).1 in
+    let more = read_more g.T.Load c.args.section c.loop-rest.room c.loop-rest.place c.loop-rest.rest.now _ _ _ _ c.loop-rest.invariant.reads (search rules) c.if-room-eq0.false c.in_ok-part.ensures.cases in
     record {
-      reads = rw (c.octets.ensures.answer, c.in_ok-push.ensures.items, map_push part_state c.loop-rest.parts.items c.in_ok-part.part)
-          (read_more g.T.Load c.args.section c.loop-rest.room c.loop-rest.place c.loop-rest.rest.now _ _ _ _ c.loop-rest.invariant.reads (search rules) c.if-room-eq0.false c.in_ok-part.ensures.cases);
+      reads = rw (c.octets.ensures.answer, c.in_ok-push.ensures.items, map_push part_state c.loop-rest.parts.items c.in_ok-part.part) (search (rules, more));
       fits = grind (arith, common_steps);
       shorter = grind (arith, common_steps);
     }

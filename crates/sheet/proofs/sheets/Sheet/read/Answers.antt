@@ -9,7 +9,7 @@ pub invariant_of-result : goal.invariant_of-result
 invariant_of-result g c =
     let bounds = layout_bounds c.args.octets.now c.args.layout.now c.requires in
     let given = sheet_gives g.T.Load c.args.layout.now c.args.octets.now _ c.in_ok-parts.ensures.cases in
-    (rw c.sections-sections.ensures.to_hut given.to_hut_good, rw c.sections-sections.ensures.back given.back_good, bounds.few)
+    search (rules, rw (← c.sections-sections.ensures.to_hut) at given.to_hut_good, rw (← c.sections-sections.ensures.back) at given.back_good, bounds.few)
 
 pub returns-clause-cases : goal.returns-clause-cases
 returns-clause-cases g c =
@@ -18,7 +18,10 @@ returns-clause-cases g c =
     let book = rw (c.count_loads.ensures.answer, c.deref.ensures.value, c.sections-sections.ensures.book) at c.in-Ok.ensures.cases in
     let to_hut = rw (← c.sections-sections.ensures.to_hut) at given.to_hut in
     let back = rw (← c.sections-sections.ensures.back) at given.back in
-    sheet_is g.T.Load c.args.layout.now c.args.octets.now _ _ _ _ _ read (book ∙ given.book) to_hut back (rw c.deref-2.ensures.value at c.in_ok-calls.ensures.made)
+    search (
+      rules,
+      sheet_is g.T.Load c.args.layout.now c.args.octets.now _ _ _ _ _ read (book ∙ given.book) to_hut back (rw c.deref-2.ensures.value at c.in_ok-calls.ensures.made),
+    )
 
 pub returns-clause-law : goal.returns-clause-law
 returns-clause-law g c = sheet_covers g.T.Load c.args.layout.now c.args.octets.now _ c.requires c.in_ok-parts.ensures.cases
