@@ -7,7 +7,9 @@ use std::io::Read;
 
 fn main(rt: HostRuntime) -> anyhow::Result<()> {
     let mut octets = Vec::new(rt.alloc());
-    rt.stdin().take(input_limit() as u64).read_to_end(&mut octets)?;
+    rt.stdin()
+        .take(input_limit() as u64)
+        .read_to_end(&mut octets)?;
     let lines = sheet_lines(rt.alloc(), &octets)?;
     print!(rt; "{lines}")?;
     Ok(())

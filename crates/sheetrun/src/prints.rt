@@ -43,9 +43,9 @@ fn run_lines<'s, T: Load>(heap: Global, sheet: &Sheet<'s, T>) -> Result<String, 
 fn refused_line(heap: Global, fault: SheetFault) -> Result<String, AllocError>
     ensures made { IfOk result (λ text. string_bytes text ≡ line (fault_text fault)) }
 {
-    let mut text = fault_line(heap, fault)?;
-    text.push('\n')?;
-    Ok(text)
+    let mut line = fault_line(heap, fault)?;
+    line.push('\n')?;
+    Ok(line)
 }
 
 // All that the octets of a sheet print. Open: whether there is memory for it.
