@@ -42,6 +42,7 @@ lists_whole layout octets bounds =
     ∙ rw (place, ← drop_split octets layout.calls layout.trailer bounds.calls, ← drop_split octets layout.back layout.calls bounds.back, ← drop_split octets layout.to_hut layout.back bounds.to_hut) (take-append-drop layout.to_hut octets)
 
 module _ {T : Type 0} where
+  -- records before others that were read
   before_ok : (parts : List (PartState T)) (others : Result (List (PartState T)) SheetFault) (all : List (PartState T)) → before parts others ≡ Ok all
       → (more : List (PartState T)) × (others ≡ Ok more) × (all ≡ parts ++ more)
   before_ok parts (Ok more) all is = (more, refl, search (rules, is))
@@ -67,6 +68,7 @@ module _ {T : Type 0} where
     pub calls_read : section_reads kind section.Calls layout.calls (slice_range octets layout.calls layout.trailer) ≡ Ok calls
     pub whole : parts ≡ book ++ (to_hut ++ (back ++ calls))
 
+  -- the sections of parts that were read
   sections_of : (kind : Ghosts T) (layout : Layout) (octets : List ℕ) (parts : List (PartState T)) → parts_read kind layout octets ≡ Ok parts → Sections kind layout octets parts
   sections_of kind layout octets parts is =
       let (book, after_book, book_read, after_read, whole) = joined_ok _ _ parts is in
@@ -90,6 +92,7 @@ module _ {T : Type 0} where
       flat_map-append f a (b ++ (c ++ d))
       ∙ ap (λ others. flat_map f a ++ others) (flat_map-append f b (c ++ d) ∙ ap (λ others. flat_map f b ++ others) (flat_map-append f c d))
 
+  -- parts in their places before others in theirs
   in_places_append : (place : ℕ) (parts others : List (PartState T)) → InPlaces place parts → InPlaces (place + length (flat_map (λ part. part.octets) parts)) others → InPlaces place (parts ++ others)
   in_places_append place [] others here there =
       let same : place + 0 ≡ place = omega arith in
@@ -151,6 +154,7 @@ module _ {T : Type 0} where
           none_within (mark_in Back) kind section.Calls 1024 layout.calls _ read.calls (λ meaning within. rw within.1 refl) calls_chain,
         ) (append-nil (marks_in Back read.back))
 
+    -- what the sections give a run, the whole gives
     gives : Gives kind layout octets parts
     gives =
         let (count, book) = book_within kind _ 0 (take layout.to_hut octets) read.book book_chain in
@@ -164,6 +168,7 @@ module _ {T : Type 0} where
           back = back ∙ sym back_whole;
         }
 
+    -- the sections cover the octets before the trailer
     covers : Bounds octets layout → Covers parts octets
     covers bounds =
         let (book, book_places) = chain_covers kind section.Book _ 0 (take layout.to_hut octets) read.book book_chain in
@@ -186,6 +191,7 @@ module _ {T : Type 0} where
               (rw to_hut_ends (in_places_append layout.back read.back read.calls back_places (rw back_ends calls_places)))))),
         )
 
+  -- the same of a sheet that was read
   pub sheet_gives : (kind : Ghosts T) (layout : Layout) (octets : List ℕ) (parts : List (PartState T)) → parts_read kind layout octets ≡ Ok parts → Gives kind layout octets parts
   sheet_gives kind layout octets parts is = gives kind layout octets parts (sections_of kind layout octets parts is)
 
@@ -198,6 +204,7 @@ module _ {T : Type 0} where
       → sheet_read kind layout octets ≡ Ok (record { repeats = layout.repeats; parts = parts; book = book; to_hut = to_hut; back = back; calls = calls })
   sheet_is kind layout octets parts book to_hut back calls read loads hut backs called = rw (read, loads, hut, backs, called) refl
 
+  -- no octets are no parts
   no_parts : (parts : List (PartState T)) → ◌≡◌ {A = Result (List (PartState T)) SheetFault} (Ok []) (Ok parts) → parts ≡ []
   no_parts [] is = refl
   no_parts (part ∷ parts) is = search rules

@@ -6,4 +6,4 @@ mod prints;
 mod runs;
 
 pub use prints::{input_limit, sheet_lines};
-pub use runs::{run_by_marks, sheet_events};
+pub use runs::{RainedLink, run_by_marks, sheet_events};

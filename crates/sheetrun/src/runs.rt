@@ -12,7 +12,7 @@ use sheet::Sheet;
 use std::alloc::{AllocError, Global};
 
 // A link over a wire to the hut and a store back, each under a rain.
-type RainedLink<'m, T> = Link<T, Rain<'m, Wire<T>>, Rain<'m, Store<EmptyLoad>>>;
+pub type RainedLink<'m, T> = Link<T, Rain<'m, Wire<T>>, Rain<'m, Store<EmptyLoad>>>;
 
 // Makes calls in order, and writes each with its answer to the front of the log, as `Link::run`. The marks decide what
 // becomes of each frame, so nothing of it is open.
@@ -55,6 +55,7 @@ fn joined_link<'s, T: Load>(sheet: &Sheet<'s, T>) -> RainedLink<'s, T>
     link.join(sheet.repeats()).unwrap();
     link
 }
+
 // The calls of a sheet, each with its answer. Open: whether there is memory for them.
 pub fn sheet_events<'s, T: Load>(
     heap: Global,
