@@ -1,3 +1,4 @@
+pub mod Lines
 pub mod Logs
 pub mod RainsByMarks
 pub mod RunsByMarks

@@ -1,5 +1,5 @@
 -- What a sheet prints: a line for each call, or one that says why it is turned down.
-use Rattle.std.specs.Prelude.{ℕ, List, ◌++◌, Ok, Err, Result, codes}
+use Rattle.std.specs.Prelude.{ℕ, ◌<◌, ◌⊎◌, List, ◌++◌, length, Ok, Err, Result, codes}
 use Rattle.std.specs.List.{flat_map}
 use Rattle.loads.specs.declared.kinds.Load.{Ghosts}
 use Rattle.loads.specs.Pieces.{pieces}
@@ -13,7 +13,8 @@ use Rattle.linktext.specs.Lines.{call_text}
 use Rattle.sheet.specs.declared.anysheets.AnySheet.{AnySheet}
 use Rattle.sheet.specs.declared.anysheets.AnySheet.TheVariants.{Readings, Pieces}
 use Rattle.sheet.specs.declared.faults.SheetFault.{SheetFault}
-use Rattle.sheet.specs.AnySheets.{sheet_reads}
+use Rattle.sheet.specs.AnySheets.{sheet_reads, HasRecords}
+use Rattle.sheet.specs.Layouts.{layout_reads}
 use Rattle.sheet.specs.Faults.{fault_text}
 use Rattle.sheet.specs.Sheets.{SheetParts}
 use Rattle.sheetrun.specs.CallsByMarks.{MarkedLink, calls_by_marks}
@@ -56,6 +57,10 @@ prints (Err fault) = line (fault_text fault)
 -- all that a sheet prints
 abbrev pub sheet_prints : List ℕ → List ℕ
 sheet_prints octets = prints (sheet_reads octets)
+
+-- memory may be wanting only where anything is printed, or a sheet has records
+abbrev pub NeedsMemory : List ℕ → Type 0
+NeedsMemory octets = (0 < length (sheet_prints octets)) ⊎ HasRecords (layout_reads octets)
 
 -- the law holds of what is printed: where the octets are a sheet, of its run
 abbrev pub TruthfulPrints : Result AnySheet SheetFault → Type 0

@@ -1,9 +1,9 @@
 // All that a sheet prints: a line for each call, or one that says why it is turned down.
-ghost use Rattle.std.specs.Prelude.{◌≡◌, ◌+◌, IfOk, string_bytes};
+ghost use Rattle.std.specs.Prelude.{◌≡◌, ◌+◌, ◌<◌, length, IfOk, IfErr, string_bytes};
 ghost use Rattle.sheet.specs.AnySheets.{sheet_reads};
 ghost use Rattle.sheet.specs.Faults.{fault_text};
 ghost use Rattle.sheet.specs.Layouts.{most_octets};
-ghost use Rattle.sheetrun.specs.Prints.{line, event_lines as lines_of, events_of, sheet_prints, TruthfulRun, TruthfulPrints};
+ghost use Rattle.sheetrun.specs.Prints.{line, event_lines as lines_of, events_of, sheet_prints, NeedsMemory, TruthfulRun, TruthfulPrints};
 
 use crate::runs::sheet_events;
 use link::Event;
@@ -19,9 +19,10 @@ pub fn input_limit() -> usize
     MOST_OCTETS + 1
 }
 
-// A line for each call with its answer. Open: whether there is memory for them.
+// A line for each call with its answer. Open: whether there is memory for them, where there are any.
 fn event_lines<T: Load>(heap: Global, events: &[Event<T>]) -> Result<String, AllocError>
     ensures made { IfOk result (λ text. string_bytes text ≡ lines_of T.Load events.now) }
+    ensures memory { IfErr result (λ _. 0 < length events.now) }
 {
     let mut text = String::new(heap);
     for event in events {
@@ -31,9 +32,10 @@ fn event_lines<T: Load>(heap: Global, events: &[Event<T>]) -> Result<String, All
     Ok(text)
 }
 
-// What the run of a sheet prints. Open: whether there is memory for it.
+// What the run of a sheet prints. Open: whether there is memory for it, where it prints anything.
 fn run_lines<'s, T: Load>(heap: Global, sheet: &Sheet<'s, T>) -> Result<String, AllocError>
     ensures made { IfOk result (λ text. string_bytes text ≡ lines_of T.Load (events_of sheet.now)) }
+    ensures memory { IfErr result (λ _. 0 < length (lines_of T.Load (events_of sheet.now))) }
     ensures law { IfOk result (λ _. TruthfulRun sheet.now) }
 {
     event_lines(heap, &sheet_events(heap, sheet)?)
@@ -48,9 +50,11 @@ fn refused_line(heap: Global, fault: SheetFault) -> Result<String, AllocError>
     Ok(line)
 }
 
-// All that the octets of a sheet print. Open: whether there is memory for it.
+// All that the octets of a sheet print. Open: whether there is memory for it, where they print anything, and for the records
+// of a sheet that prints nothing.
 pub fn sheet_lines(heap: Global, octets: &[u8]) -> Result<String, AllocError>
     ensures made { IfOk result (λ text. string_bytes text ≡ sheet_prints octets.now) }
+    ensures memory { IfErr result (λ _. NeedsMemory octets.now) }
     ensures law { IfOk result (λ _. TruthfulPrints (sheet_reads octets.now)) }
 {
     match AnySheet::read(heap, octets) {

@@ -1,5 +1,5 @@
 // Runs on a link over two rains, whose marks decide what is answered.
-ghost use Rattle.std.specs.Prelude.{◌≡◌, List, [], length, take, IfOk, vec_items};
+ghost use Rattle.std.specs.Prelude.{◌≡◌, ◌<◌, List, [], length, take, IfOk, IfErr, vec_items};
 ghost use Rattle.link.specs.Histories.{Reached, Lawful};
 ghost use Rattle.link.specs.Runs.{run_answer, run_count, written, behind};
 ghost use Rattle.sheetrun.specs.Prints.{link_at_start, events_of, TruthfulRun};
@@ -56,12 +56,13 @@ fn joined_link<'s, T: Load>(sheet: &Sheet<'s, T>) -> RainedLink<'s, T>
     link
 }
 
-// The calls of a sheet, each with its answer. Open: whether there is memory for them.
+// The calls of a sheet, each with its answer. Open: whether there is memory for them, where there are any.
 pub fn sheet_events<'s, T: Load>(
     heap: Global,
     sheet: &Sheet<'s, T>,
 ) -> Result<Vec<Event<T>>, AllocError>
     ensures made { IfOk result (λ events. vec_items events ≡ events_of sheet.now) }
+    ensures memory { IfErr result (λ _. 0 < length sheet.now.calls) }
     ensures law { IfOk result (λ _. TruthfulRun sheet.now) }
 {
     let mut link = joined_link(sheet);
@@ -71,7 +72,8 @@ pub fn sheet_events<'s, T: Load>(
         call: Call::Meet,
         answer: Ok(Answer::Done),
     };
-    let mut log = vec![in heap; unwritten; calls.len()]?;
+    let mut log = Vec::new(heap);
+    log.resize(calls.len(), unwritten)?;
     run_whole(&mut link, sheet.book(), calls, &mut log);
     Ok(log)
 }
