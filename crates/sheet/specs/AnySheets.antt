@@ -11,7 +11,7 @@ use Rattle.sheet.specs.declared.layouts.LoadKind.TheVariants.{Reading, Piece}
 use Rattle.sheet.specs.Layouts.{layout_reads}
 use Rattle.sheet.specs.Sheets.{SheetParts, sheet_read, Covers}
 
--- a sheet of one kind as_any sheets of any
+-- a sheet of one kind as a sheet of any kind
 abbrev pub as_any : {T : Type 0} → (SheetParts T → AnySheet) → Result (SheetParts T) SheetFault → Result AnySheet SheetFault
 as_any kind (Ok sheet) = Ok (kind sheet)
 as_any kind (Err fault) = Err fault
@@ -31,9 +31,9 @@ abbrev pub sheet_reads : List ℕ → Result AnySheet SheetFault
 sheet_reads octets = sheet_by_layout (layout_reads octets) octets
 
 -- a good trailer with octets before it
-abbrev pub HasRecords : Result Layout SheetFault → Type 0
-HasRecords (Ok layout) = 0 < layout.trailer
-HasRecords (Err fault) = ⊥
+abbrev pub OctetsBefore : Result Layout SheetFault → Type 0
+OctetsBefore (Ok layout) = 0 < layout.trailer
+OctetsBefore (Err fault) = ⊥
 
 -- the parts of a sheet cover it
 abbrev pub Covered : AnySheet → List ℕ → Type 0

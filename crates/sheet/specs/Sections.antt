@@ -1,4 +1,4 @@
--- The sections of a sheet, each read record by record.
+-- The sections of a sheet, which are its four lists, each read record by record.
 use Rattle.std.specs.Prelude.{ℕ, zero, suc, ◌+◌, List, [], ◌∷◌, ◌++◌, length, Ok, Err, Result}
 use Rattle.loads.specs.declared.kinds.Load.{Ghosts}
 use Rattle.sheet.specs.declared.faults.SheetFault.{SheetFault}
@@ -14,8 +14,8 @@ use Rattle.sheet.specs.Records.{Front, book_record, mark_record, call_record}
 abbrev pub most_calls : ℕ
 most_calls = 1024
 
--- the most records of a section: each load of a book has octets, so there are no more loads than octets; marks are as many as a
--- rain takes
+-- the most records of a section: each load of a sheet's book has octets, so there are no more loads than octets; marks are as
+-- many as a rain takes
 abbrev pub room_of : Section → List ℕ → ℕ
 room_of section.Book octets = length octets
 room_of (section.Marks way) octets = 64
@@ -44,7 +44,8 @@ module _ {T : Type 0} where
   then_records (Ok (part, rest)) others = before (part ∷ []) (others part rest)
   then_records (Err fault) others = Err fault
 
-  -- at most so many records, up to the end of the octets, each where the one before it ends
+  -- at most so many records, up to the end of the octets, each where the one before it ends; one too many is
+  -- turned down where it starts
   abbrev pub records_read : Ghosts T → Section → ℕ → ℕ → List ℕ → Result (List (PartState T)) SheetFault
   records_read kind section room place [] = Ok []
   records_read kind section zero place (octet ∷ octets) = Err (fault_at (refusal_of section) place)

@@ -1,4 +1,4 @@
-// The sections of a sheet, each read record by record.
+// The sections of a sheet, which are its four lists, each read record by record.
 ghost use Rattle.std.specs.Prelude.{◌≡◌, ◌+◌, ◌<◌, ◌^◌, ◌++◌, length, map, Ok, Err, IfErr, MatchResult, vec_items};
 ghost use Rattle.sheet.specs.Parts.{part_state};
 ghost use Rattle.sheet.specs.declared.faults.ReadError.TheVariants.{NoMemory};
@@ -23,7 +23,8 @@ pub(crate) enum Section {
 }
 
 impl Section {
-    // The most records of the section. Each load of a book has octets, so there are no more loads than octets.
+    // The most records of the section. Each load of a sheet's book has octets, so there are no more loads than
+    // octets.
     fn room(self, octets: &[u8]) -> usize
         ensures answer { result ≡ room_of self octets.now }
     {
@@ -62,7 +63,7 @@ impl Section {
 }
 
 // Reads a section record by record, each behind the one before, and adds the records to the parts. Open: whether there is
-// memory for them.
+// memory for them, where there are octets.
 pub(crate) fn read_section<'s, T: Load>(
     parts: &mut Vec<Part<'s, T>>,
     section: Section,

@@ -23,7 +23,9 @@ pub struct Sheet<'s, T> {
     repeats: u8,
     parts: Vec<Part<'s, T>>,
     book: Book<T>,
+    // the octets of K's marks
     to_hut: &'s [u8],
+    // the octets of L's marks
     back: &'s [u8],
     calls: Vec<Call>,
 }
@@ -115,7 +117,7 @@ fn count_loads<'s, T>(parts: &[Part<'s, T>]) -> usize
     count
 }
 
-// The parts of a sheet, section by section. Open: whether there is memory for them.
+// The parts of a sheet, section by section. Open: whether there is memory for them, where octets stand before the trailer.
 fn read_parts<'s, T: Load>(
     heap: Global,
     layout: &Layout,
@@ -145,7 +147,7 @@ fn read_parts<'s, T: Load>(
 }
 
 impl<'s, T: Load> Sheet<'s, T> {
-    // The sheet of a layout. Open: whether there is memory for it.
+    // The sheet of a layout. Open: whether there is memory for it, where octets stand before the trailer.
     pub(crate) fn read(
         heap: Global,
         layout: &Layout,

@@ -103,7 +103,7 @@ module _ {T : Type 0} where
   heard_by call.Break before = Still
   heard_by call.Meet before = Still
 
-  -- a call that answered so and left this link, with the marks that it leaves
+  -- by what a call answered and the link that it left: its event, and that link with the marks that the call leaves
   abbrev pub call_by_marks_at : Call → MarkedLink T → Result (Answer T) LinkRefusal × LinkState T → Event T × MarkedLink T
   call_by_marks_at call before (answer, after) = (
     record { call = call; answer = answer },

@@ -13,7 +13,7 @@ use Rattle.linktext.specs.Lines.{call_text}
 use Rattle.sheet.specs.declared.anysheets.AnySheet.{AnySheet}
 use Rattle.sheet.specs.declared.anysheets.AnySheet.TheVariants.{Readings, Pieces}
 use Rattle.sheet.specs.declared.faults.SheetFault.{SheetFault}
-use Rattle.sheet.specs.AnySheets.{sheet_reads, HasRecords}
+use Rattle.sheet.specs.AnySheets.{sheet_reads, OctetsBefore}
 use Rattle.sheet.specs.Layouts.{layout_reads}
 use Rattle.sheet.specs.Faults.{fault_text}
 use Rattle.sheet.specs.Sheets.{SheetParts}
@@ -49,7 +49,7 @@ abbrev pub run_lines : AnySheet → List ℕ
 run_lines (Readings sheet) = event_lines readings (events_of sheet)
 run_lines (Pieces sheet) = event_lines pieces (events_of sheet)
 
--- or the line that says why it is turned down
+-- what is printed: the lines of a sheet, or of octets that are none the line that says why
 abbrev pub prints : Result AnySheet SheetFault → List ℕ
 prints (Ok sheet) = run_lines sheet
 prints (Err fault) = line (fault_text fault)
@@ -58,9 +58,9 @@ prints (Err fault) = line (fault_text fault)
 abbrev pub sheet_prints : List ℕ → List ℕ
 sheet_prints octets = prints (sheet_reads octets)
 
--- memory may be wanting only where anything is printed, or a sheet has records
+-- memory may be wanting only where anything is printed, or a good trailer has octets before it
 abbrev pub NeedsMemory : List ℕ → Type 0
-NeedsMemory octets = (0 < length (sheet_prints octets)) ⊎ HasRecords (layout_reads octets)
+NeedsMemory octets = (0 < length (sheet_prints octets)) ⊎ OctetsBefore (layout_reads octets)
 
 -- the law holds of what is printed: where the octets are a sheet, of its run
 abbrev pub TruthfulPrints : Result AnySheet SheetFault → Type 0
