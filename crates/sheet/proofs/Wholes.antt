@@ -11,6 +11,7 @@ use Rattle.channels.specs.Marks.{good_marks, marks_of}
 use Rattle.link.specs.declared.calls.Call.{Call}
 use Rattle.sheet.specs.declared.faults.SheetFault.{SheetFault}
 use Rattle.sheet.specs.declared.layouts.Layout.{Layout}
+use Rattle.sheet.specs.declared.parts.Way.{Way}
 use Rattle.sheet.specs.declared.parts.Way.TheVariants.{ToHut, Back}
 use Rattle.sheet.specs.declared.sections.Section.TheVariants as section
 use Rattle.sheet.specs.Layouts.{layout_reads, trailer_of}
@@ -133,26 +134,24 @@ module _ {T : Type 0} where
           none_within load_in kind section.Calls 1024 layout.calls _ read.calls (λ meaning within. rw within.1 refl) calls_chain,
         ) (append-nil (loads_in read.book))
 
-    -- and marks for each way in one section
-    to_hut_whole : marks_in ToHut parts ≡ marks_in ToHut read.to_hut
-    to_hut_whole =
-        ap (marks_in ToHut) read.whole
-        ∙ flat_map_four (λ part. mark_in ToHut part.meaning) read.book read.to_hut read.back read.calls
-        ∙ rw (
-          none_within (mark_in ToHut) kind section.Book _ 0 _ read.book (λ meaning within. rw within.1 refl) book_chain,
-          none_within (mark_in ToHut) kind (section.Marks Back) 64 layout.back _ read.back (λ meaning within. rw within.1 refl) back_chain,
-          none_within (mark_in ToHut) kind section.Calls 1024 layout.calls _ read.calls (λ meaning within. rw within.1 refl) calls_chain,
-        ) (append-nil (marks_in ToHut read.to_hut))
+    -- the section of the marks of a way
+    abbrev of_way : Way → List (PartState T)
+    of_way ToHut = read.to_hut
+    of_way Back = read.back
 
-    back_whole : marks_in Back parts ≡ marks_in Back read.back
-    back_whole =
-        ap (marks_in Back) read.whole
-        ∙ flat_map_four (λ part. mark_in Back part.meaning) read.book read.to_hut read.back read.calls
+    -- and marks of a way are in its section alone
+    one_way : (way : Way) → marks_in way read.to_hut ++ (marks_in way read.back ++ []) ≡ marks_in way (of_way way)
+    one_way ToHut = rw (none_within (mark_in ToHut) kind (section.Marks Back) 64 layout.back _ read.back (λ meaning within. rw within.1 refl) back_chain) (append-nil (marks_in ToHut read.to_hut))
+    one_way Back = rw (none_within (mark_in Back) kind (section.Marks ToHut) 64 layout.to_hut _ read.to_hut (λ meaning within. rw within.1 refl) to_hut_chain) (append-nil (marks_in Back read.back))
+
+    marks_whole : (way : Way) → marks_in way parts ≡ marks_in way (of_way way)
+    marks_whole way =
+        ap (marks_in way) read.whole
+        ∙ flat_map_four (λ part. mark_in way part.meaning) read.book read.to_hut read.back read.calls
         ∙ rw (
-          none_within (mark_in Back) kind section.Book _ 0 _ read.book (λ meaning within. rw within.1 refl) book_chain,
-          none_within (mark_in Back) kind (section.Marks ToHut) 64 layout.to_hut _ read.to_hut (λ meaning within. rw within.1 refl) to_hut_chain,
-          none_within (mark_in Back) kind section.Calls 1024 layout.calls _ read.calls (λ meaning within. rw within.1 refl) calls_chain,
-        ) (append-nil (marks_in Back read.back))
+          none_within (mark_in way) kind section.Book _ 0 _ read.book (λ meaning within. rw within.1 refl) book_chain,
+          none_within (mark_in way) kind section.Calls 1024 layout.calls _ read.calls (λ meaning within. rw within.1 refl) calls_chain,
+        ) (one_way way)
 
     -- what the sections give a run, the whole gives
     gives : Gives kind layout octets parts
@@ -163,9 +162,9 @@ module _ {T : Type 0} where
         record {
           book = rw (loads_whole, count) book;
           to_hut_good = rw to_hut_known (le-leb _ _ to_hut_short);
-          to_hut = to_hut ∙ sym to_hut_whole;
+          to_hut = to_hut ∙ sym (marks_whole ToHut);
           back_good = rw back_known (le-leb _ _ back_short);
-          back = back ∙ sym back_whole;
+          back = back ∙ sym (marks_whole Back);
         }
 
     -- the sections cover the octets before the trailer
