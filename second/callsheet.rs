@@ -13,13 +13,13 @@
 //! - `calls`: on a link with 2 repeats over a book of 4,096 readings, a message of three loads in
 //!   each round, all delivered, which is 17 calls. S is the sum of all values told and of all
 //!   answer numbers, in 32 bits; W and T are the outcome.
-//! - `frames`: writes a piece frame and a reading frame in each round, and reads them back. S is
-//!   the sum of what was read and of the octet counts, in 64 bits.
+//! - `frames`: in each round writes 1,024 frames of pieces and 1,024 of readings, and then reads
+//!   them all. S is the sum of what the loads read have, in 64 bits.
 //! - `requests`: on such a link over a book of LOADS readings, 1 to 4,096 of them, each round
-//!   requests one load, abandons, confirms, parts and meets. S is the sum of all answer numbers
-//!   and of the words (OK 0, NOT_OK 1, DONT_KNOW 2), in 32 bits; T is of the outcome.
-//!   Nothing hides the link from the compiler here: rustc 1.95 leaves none of the five calls in
-//!   the loop, so its time says nothing of them.
+//!   requests one load from some place, and either delivers it and confirms, or abandons,
+//!   confirms, parts and meets. Which of them, and the place, come of numbers that look random. S
+//!   is the sum of all values told, answer numbers and words (OK 0, NOT_OK 1, DONT_KNOW 2), in 32
+//!   bits; T is of the outcome.
 //!
 //! Reading i of such a book has the value i * 2654435761 in 32 bits. Where there is no outcome,
 //! since there was no round, `refused 13` stands in its place. Other arguments end it with 2.
@@ -1322,12 +1322,18 @@ mod speed {
     use super::channels::{Marks, Rain, Store, Wire};
     use super::link::{Link, Refusal, Word};
     use super::loads::{Bits, Book, EmptyLoad, Fault, Frame, Load, Piece, Reading, FRAME_OCTETS};
-    use std::hint::black_box;
 
     type ReadingLink = Link<Reading, Rain<Wire<Reading>>, Rain<Store<EmptyLoad>>>;
 
     pub const MOST_LOADS: u32 = 4096;
     const REPEATS: u8 = 2;
+
+    /// How many frames of each kind a block has. They are all written before the first is read, so
+    /// that none can be taken from anywhere but its octets.
+    const BLOCK: usize = 1024;
+
+    /// Room for a frame of a piece and one of a reading.
+    const ROOM: usize = 2 * FRAME_OCTETS;
 
     fn readings(loads: u32) -> Book<Reading> {
         (0..loads)
@@ -1369,13 +1375,7 @@ mod speed {
         for round in 0..rounds {
             tally.take(link.request(&book, (round * 7 % 4093) as u16, 3));
             for _ in 0..3 {
-                tally.take(link.send(&book));
-                tally.take(link.carry());
-                if let Some((_, load)) = tally.take(link.tell()) {
-                    tally.add(load.value());
-                }
-                tally.take(link.reply());
-                tally.take(link.return_reply());
+                deliver(&mut link, &book, &mut tally);
             }
             tally.take(link.confirm());
         }
@@ -1390,20 +1390,48 @@ mod speed {
         let book = readings(loads);
         let mut link = joined_link()?;
         let mut tally = Tally::default();
-        for round in 0..rounds {
-            tally.take(link.request(&book, (round % u64::from(loads)) as u16, 1));
-            tally.take(link.abandon());
+        let mut chance = 1;
+        for _ in 0..rounds {
+            chance = next(chance);
+            let start = ((chance >> 33) % u64::from(loads)) as u16;
+            tally.take(link.request(&book, start, 1));
+            if chance >> 63 == 1 {
+                tally.take(link.abandon());
+            } else {
+                deliver(&mut link, &book, &mut tally);
+            }
             if let Some(word) = tally.take(link.confirm()) {
                 tally.add(number(word));
             }
-            tally.take(link.part());
-            tally.take(link.meet());
+            if chance >> 63 == 1 {
+                tally.take(link.part());
+                tally.take(link.meet());
+            }
         }
         let outcome = match link.outcome() {
             Ok((_, told)) => format!("told {told}"),
             Err(refusal) => format!("refused {}", refusal.number()),
         };
         Ok(format!("requests {rounds} sum {} {outcome}", tally.sum))
+    }
+
+    /// The next number of a row that looks random, so that what becomes of a message is not known
+    /// to the compiler.
+    fn next(number: u64) -> u64 {
+        number
+            .wrapping_mul(6_364_136_223_846_793_005)
+            .wrapping_add(1_442_695_040_888_963_407)
+    }
+
+    /// Makes the five calls by which the next load is delivered.
+    fn deliver(link: &mut ReadingLink, book: &Book<Reading>, tally: &mut Tally) {
+        tally.take(link.send(book));
+        tally.take(link.carry());
+        if let Some((_, load)) = tally.take(link.tell()) {
+            tally.add(load.value());
+        }
+        tally.take(link.reply());
+        tally.take(link.return_reply());
     }
 
     fn number(word: Word) -> u32 {
@@ -1415,30 +1443,51 @@ mod speed {
     }
 
     pub fn frames(rounds: u64) -> Result<String, Fault> {
-        let mut buffer = [0; FRAME_OCTETS];
+        let mut octets = vec![0; BLOCK * ROOM];
         let mut sum = 0_u64;
-        let mut frames = 0_u64;
-        for i in 0..rounds {
+        for round in 0..rounds {
+            write_block(round.wrapping_mul(BLOCK as u64), &mut octets)?;
+            sum = sum.wrapping_add(read_block(&octets)?);
+        }
+        let frames = rounds.wrapping_mul(2 * BLOCK as u64);
+        Ok(format!("frames {frames} sum {sum}"))
+    }
+
+    /// Writes a block of frames, whose numbers begin with the first.
+    fn write_block(first: u64, octets: &mut [u8]) -> Result<(), Fault> {
+        for (i, room) in (first..).zip(octets.chunks_exact_mut(ROOM)) {
             let bits = Bits {
                 first: i & 1 != 0,
                 last: i & 2 != 0,
                 toggle: i & 4 != 0,
             };
-            let (piece, count) = there_and_back(Frame::new(bits, piece(i)?), &mut buffer)?;
+            let (at_piece, at_reading) = room.split_at_mut(FRAME_OCTETS);
+            Frame::new(bits, piece(i)?).write(at_piece)?;
+            Frame::new(bits, Reading::new(i as u32)).write(at_reading)?;
+        }
+        Ok(())
+    }
+
+    /// The sum of what the loads of a block have.
+    fn read_block(octets: &[u8]) -> Result<u64, Fault> {
+        let mut sum = 0_u64;
+        for room in octets.chunks_exact(ROOM) {
+            let (at_piece, at_reading) = room.split_at(FRAME_OCTETS);
+            let piece = load_at::<Piece>(at_piece)?;
+            let reading = load_at::<Reading>(at_reading)?;
             sum = sum
                 .wrapping_add(piece.body())
                 .wrapping_add(u64::from(piece.column()))
                 .wrapping_add(u64::from(piece.row()))
                 .wrapping_add(u64::from(piece.number()))
-                .wrapping_add(count as u64);
-            let reading = Reading::new(i as u32);
-            let (reading, count) = there_and_back(Frame::new(bits, reading), &mut buffer)?;
-            sum = sum
-                .wrapping_add(u64::from(reading.value()))
-                .wrapping_add(count as u64);
-            frames += 2;
+                .wrapping_add(u64::from(reading.value()));
         }
-        Ok(format!("frames {frames} sum {sum}"))
+        Ok(sum)
+    }
+
+    /// The load of the frame at the front of some octets.
+    fn load_at<L: Load>(octets: &[u8]) -> Result<L, Fault> {
+        Ok(Frame::<L>::read(&octets[..L::SIZE + 1])?.load())
     }
 
     fn piece(i: u64) -> Result<Piece, Fault> {
@@ -1451,18 +1500,6 @@ mod speed {
             i as u16,
             i.wrapping_mul(0x9E37_79B9_7F4A_7C15),
         )
-    }
-
-    /// Writes a frame, reads it back, and answers its load and how many octets it had.
-    fn there_and_back<L: Load>(
-        frame: Frame<L>,
-        buffer: &mut [u8; FRAME_OCTETS],
-    ) -> Result<(L, usize), Fault> {
-        let count = frame.write(buffer)?;
-        // otherwise the compiler may take the load from the frame and read nothing
-        let buffer = black_box(buffer);
-        let frame = Frame::<L>::read(&buffer[..count])?;
-        Ok((frame.load(), count))
     }
 }
 
