@@ -1233,15 +1233,9 @@ impl Tally {
     }
 
     fn add(&mut self, other: Tally) {
-        for (key, count) in other.sheets {
-            *self.sheets.entry(key).or_default() += count;
-        }
-        for (key, count) in other.answers {
-            *self.answers.entry(key).or_default() += count;
-        }
-        for (key, count) in other.words {
-            *self.words.entry(key).or_default() += count;
-        }
+        add_counts(&mut self.sheets, other.sheets);
+        add_counts(&mut self.answers, other.answers);
+        add_counts(&mut self.words, other.words);
     }
 
     fn print(&self) {
@@ -1280,6 +1274,12 @@ impl Tally {
             .get(&(class, column.to_string()))
             .copied()
             .unwrap_or(0)
+    }
+}
+
+fn add_counts<K: Ord>(all: &mut BTreeMap<K, usize>, more: BTreeMap<K, usize>) {
+    for (key, count) in more {
+        *all.entry(key).or_default() += count;
     }
 }
 
