@@ -628,8 +628,13 @@ fn next_call(random: &mut Random, link: &Link, abandons: usize) -> Call {
 
 /// Gives a draft as many calls more, mostly such as are due.
 fn add_due_calls(draft: &mut Draft, random: &mut Random, count: usize) {
-    let mut link = Link::of_draft(draft);
     let abandons = random.pick(&[1, 4, 40]);
+    add_calls(draft, random, count, abandons);
+}
+
+/// The same, with how often an abandon that is due is made, beside 60 for most calls.
+fn add_calls(draft: &mut Draft, random: &mut Random, count: usize, abandons: usize) {
+    let mut link = Link::of_draft(draft);
     for _ in 0..count {
         let call = next_call(random, &link, abandons);
         link.make(call);
@@ -640,6 +645,22 @@ fn add_due_calls(draft: &mut Draft, random: &mut Random, count: usize) {
 /// Class due: a sheet whose calls are mostly due.
 fn due(maker: &mut Maker) -> Vec<u8> {
     maker.due_draft().octets()
+}
+
+/// Class lossy: one load is lost about as often as it may be sent, on its way or with its reply, for each number of repeats.
+fn lossy(maker: &mut Maker) -> Vec<u8> {
+    let kind = maker.kind();
+    let mut draft = maker.draft_of(kind, 2);
+    let random = &mut maker.random;
+    let repeats = maker.turn % 11;
+    let losses = repeats + random.pick(&[0, 1, 1, 2]);
+    let in_k = random.within(0..=losses);
+    let before = random.below(2);
+    draft.repeats = repeats as u8;
+    draft.to_hut = [vec![0; before], vec![1; in_k]].concat();
+    draft.back = [vec![0; before], vec![1; losses - in_k]].concat();
+    add_calls(&mut draft, random, 5 * losses + 15, 0);
+    draft.octets()
 }
 
 /// Class any: a sheet whose calls are picked at random.
@@ -1086,8 +1107,9 @@ const fn class(
     }
 }
 
-const CLASSES: [Class; 24] = [
-    class("due", 90, 70, due),
+const CLASSES: [Class; 25] = [
+    class("due", 86, 59, due),
+    class("lossy", 4, 11, lossy),
     class("any", 16, 14, any),
     class("request", 20, 20, request),
     class("changed", 6, 6, changed),
