@@ -1460,9 +1460,23 @@ fn escaped(octet: &u8) -> String {
     }
 }
 
-/// Prints the table of a seed, with what the program prints of each sheet.
+/// How many octets of source a part of the table has at most, unless it is one case: the prover goes through a part in one
+/// declaration, and a part of 12,679 octets is known to stay within its steps, one of 32,901 is known not to.
+const PART_OCTETS: usize = 10_000;
+
+/// A case of the table.
+fn case_text(name: &str, octets: &[u8], prints: &str) -> String {
+    let octets: String = octets.iter().map(escaped).collect();
+    let prints = prints.escape_default();
+    format!(
+        "    Case {{\n        name: \"{name}\",\n        octets: b\"{octets}\",\n        prints: \"{prints}\",\n    }},\n"
+    )
+}
+
+/// Prints the table of a seed in parts, with what the program prints of each sheet.
 fn table(seed: u64, count: usize, program: &str) -> Outcome<bool> {
-    println!("{TABLE_HEAD}\n#[rattlefmt::skip]\npub const CASES: [Case; {count}] = [");
+    let mut parts: Vec<Vec<String>> = Vec::new();
+    let mut room = 0;
     let mut numbers = [0; CLASSES.len()];
     for index in 0..count {
         let sheet = table_sheet(seed, index, count);
@@ -1472,12 +1486,22 @@ fn table(seed: u64, count: usize, program: &str) -> Outcome<bool> {
         }
         numbers[sheet.class] += 1;
         let name = format!("{}-{:03}", CLASSES[sheet.class].name, numbers[sheet.class]);
-        let octets: String = sheet.octets.iter().map(escaped).collect();
-        let prints = String::from_utf8(ran.printed)?;
-        println!("    Case {{\n        name: \"{name}\",\n        octets: b\"{octets}\",");
-        println!("        prints: \"{}\",\n    }},", prints.escape_default());
+        let case = case_text(&name, &sheet.octets, &String::from_utf8(ran.printed)?);
+        if parts.is_empty() || room < case.len() {
+            parts.push(Vec::new());
+            room = PART_OCTETS;
+        }
+        room = room.saturating_sub(case.len());
+        parts.last_mut().ok_or("no part")?.push(case);
     }
-    println!("];");
+    print!("{TABLE_HEAD}");
+    for (place, cases) in parts.iter().enumerate() {
+        let (number, length) = (place + 1, cases.len());
+        println!(
+            "\n#[rattlefmt::skip]\npub const CASES_{number}: [Case; {length}] = [\n{}];",
+            cases.concat()
+        );
+    }
     Ok(true)
 }
 
