@@ -82,17 +82,19 @@ impl Load for Piece {
             number,
             body,
         } = *self;
-        let Some(front) = buffer.first_chunk_mut() else {
+        if buffer.len() < Self::SIZE {
             return Err(Fault::WrongLength);
-        };
-        let [c0, c1, c2, c3] = column.to_be_bytes();
-        let [r0, r1, r2, r3] = row.to_be_bytes();
-        let [n0, n1] = number.to_be_bytes();
-        let [b0, b1, b2, b3, b4, b5, b6, b7] = body.to_be_bytes();
-        // as one array, so that no octet of the front is left as it was
-        *front = [
-            zoom, c0, c1, c2, c3, r0, r1, r2, r3, n0, n1, b0, b1, b2, b3, b4, b5, b6, b7,
-        ];
+        }
+        let (at_zoom, rest) = buffer.split_first_mut().unwrap();
+        let (at_column, rest) = rest.split_first_chunk_mut().unwrap();
+        let (at_row, rest) = rest.split_first_chunk_mut().unwrap();
+        let (at_number, rest) = rest.split_first_chunk_mut().unwrap();
+        let (at_body, _) = rest.split_first_chunk_mut().unwrap();
+        *at_zoom = zoom;
+        *at_column = column.to_be_bytes();
+        *at_row = row.to_be_bytes();
+        *at_number = number.to_be_bytes();
+        *at_body = body.to_be_bytes();
         Ok(())
     }
 }
