@@ -9,5 +9,5 @@ mod lines;
 
 pub use anyframes::AnyFrame;
 pub use events::event_line;
-pub use hexadecimals::hexadecimal;
+pub use hexadecimals::{hexadecimal, push_hexadecimal};
 pub use lines::{frame_line, frame_lines};

@@ -4,4 +4,4 @@
 
 mod lines;
 
-pub use lines::{call_line, outcome_line};
+pub use lines::{call_line, outcome_line, push_call};

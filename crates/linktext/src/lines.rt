@@ -1,55 +1,78 @@
 // The printed lines of a link: of a call with its answer, and of an outcome.
-ghost use Rattle.std.specs.Prelude.{◌≡◌, IfOk, string_bytes};
+ghost use Rattle.std.specs.Prelude.{◌≡◌, ◌++◌, IfOk, codes, string_bytes, decimal};
 ghost use Rattle.linktext.specs.Lines.{load_text, shown_text, call_text, outcome_text};
 
-use frametext::hexadecimal;
+use frametext::push_hexadecimal;
 use link::{Answer, Event, LinkRefusal, Word};
 use loads::{LONGEST_FRAME, Load, answer_number};
 use std::alloc::{AllocError, Global};
+use std::fmt::Write;
 
-// The octets of a load, in hexadecimal.
-fn load_text<T: Load>(heap: Global, load: &T) -> Result<String, AllocError>
-    ensures made { IfOk result (λ text. string_bytes text ≡ load_text T.Load load.now) }
+// Adds the octets of a load to a text, in hexadecimal.
+fn push_load<T: Load>(text: &mut String, load: &T) -> Result<(), AllocError>
+    ensures made { IfOk result (λ _. string_bytes text.new ≡ string_bytes text.old ++ load_text T.Load load.now) }
 {
     let mut octets = [0; LONGEST_FRAME];
     load.write(&mut octets).unwrap();
-    hexadecimal(heap, &octets[..T::SIZE])
+    push_hexadecimal(text, &octets[..T::SIZE])
 }
 
-// What an accepted call shows, behind a space; nothing where a call is turned down.
-fn shown_text<T: Load>(
-    heap: Global,
+// Adds a word behind a space.
+fn push_word(text: &mut String, word: &str) -> Result<(), AllocError>
+    ensures made { IfOk result (λ _. string_bytes text.new ≡ string_bytes text.old ++ (codes " " ++ word.now)) }
+{
+    text.push(' ')?;
+    text.push_str(word)
+}
+
+// Adds what an accepted call shows, behind a space; nothing where a call is turned down.
+fn push_shown<T: Load>(
+    text: &mut String,
     answer: &Result<Answer<T>, LinkRefusal>,
-) -> Result<String, AllocError>
-    ensures made { IfOk result (λ text. string_bytes text ≡ shown_text T.Load answer.now) }
+) -> Result<(), AllocError>
+    ensures made { IfOk result (λ _. string_bytes text.new ≡ string_bytes text.old ++ shown_text T.Load answer.now) }
 {
     match answer {
-        Ok(Answer::Polled(heard)) => {
-            let word = heard.word();
-            format!(in heap; " {word}")
-        }
+        Ok(Answer::Polled(heard)) => push_word(text, heard.word()),
         Ok(Answer::Told(mark, load)) => {
-            let word = mark.word();
-            let octets = load_text(heap, load)?;
-            format!(in heap; " {word} {octets}")
+            push_word(text, mark.word())?;
+            text.push(' ')?;
+            push_load(text, load)
         }
-        Ok(Answer::Confirmed(word)) => {
-            let word = word.word();
-            format!(in heap; " {word}")
-        }
-        Ok(Answer::Done) | Err(_) => Ok(String::new(heap)),
+        Ok(Answer::Confirmed(word)) => push_word(text, word.word()),
+        Ok(Answer::Done) | Err(_) => Ok(()),
     }
 }
 
-// The letter of a call, the number of its answer, and what it shows if it is accepted. Open: whether there is memory for
-// the text.
+// Adds a number. One of a single digit, as most are, needs no formatting.
+#[tactic(auto, using(std::proofs::lemmas::Fmt::decimal_digit))]
+fn push_number(text: &mut String, number: u8) -> Result<(), AllocError>
+    ensures made { IfOk result (λ _. string_bytes text.new ≡ string_bytes text.old ++ decimal number) }
+{
+    if number < 10 {
+        return text.push(char::from(b'0' + number));
+    }
+    write!(text, "{number}")
+}
+
+// Adds the letter of a call, the number of its answer, and what it shows if it is accepted. Open: whether there is memory
+// for them, and what of them the text has if not.
+pub fn push_call<T: Load>(text: &mut String, event: &Event<T>) -> Result<(), AllocError>
+    ensures made { IfOk result (λ _. string_bytes text.new ≡ string_bytes text.old ++ call_text T.Load event.now) }
+{
+    text.push(event.call.letter())?;
+    text.push(' ')?;
+    push_number(text, answer_number(&event.answer))?;
+    push_shown(text, &event.answer)
+}
+
+// The same as a text of its own. Open: whether there is memory for it.
 pub fn call_line<T: Load>(heap: Global, event: &Event<T>) -> Result<String, AllocError>
     ensures made { IfOk result (λ text. string_bytes text ≡ call_text T.Load event.now) }
 {
-    let letter = event.call.letter();
-    let number = answer_number(&event.answer);
-    let shown = shown_text(heap, &event.answer)?;
-    format!(in heap; "{letter} {number}{shown}")
+    let mut text = String::new(heap);
+    push_call(&mut text, event)?;
+    Ok(text)
 }
 
 // How a message ended, and how many of its loads the hut was told. Open: whether there is memory for the text.

@@ -7,7 +7,7 @@ ghost use Rattle.sheetrun.specs.Prints.{line, event_lines as lines_of, events_of
 
 use crate::runs::sheet_events;
 use link::Event;
-use linktext::call_line;
+use linktext::push_call;
 use loads::Load;
 use sheet::{AnySheet, MOST_OCTETS, ReadError, Sheet, SheetFault, fault_line};
 use std::alloc::{AllocError, Global};
@@ -26,7 +26,7 @@ fn event_lines<T: Load>(heap: Global, events: &[Event<T>]) -> Result<String, All
 {
     let mut text = String::new(heap);
     for event in events {
-        text.push_str(&call_line(heap, event)?)?;
+        push_call(&mut text, event)?;
         text.push('\n')?;
     }
     Ok(text)
