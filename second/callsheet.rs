@@ -1328,9 +1328,8 @@ mod speed {
     pub const MOST_LOADS: u32 = 4096;
     const REPEATS: u8 = 2;
 
-    /// How many frames of each kind a block has. They are all written before the first is read, so
-    /// that none can be taken from anywhere but its octets.
-    const BLOCK: usize = 1024;
+    /// How many frames of each kind a block has. They are all written before the first is read.
+    const BLOCK: u32 = 1024;
 
     /// Room for a frame of a piece and one of a reading.
     const ROOM: usize = 2 * FRAME_OCTETS;
@@ -1443,27 +1442,44 @@ mod speed {
     }
 
     pub fn frames(rounds: u64) -> Result<String, Fault> {
-        let mut octets = vec![0; BLOCK * ROOM];
+        let pairs = (0..BLOCK).map(Pair::of).collect::<Result<Vec<Pair>, Fault>>()?;
+        let mut octets = vec![0; pairs.len() * ROOM];
         let mut sum = 0_u64;
-        for round in 0..rounds {
-            write_block(round.wrapping_mul(BLOCK as u64), &mut octets)?;
+        for _ in 0..rounds {
+            write_block(&pairs, &mut octets)?;
             sum = sum.wrapping_add(read_block(&octets)?);
         }
-        let frames = rounds.wrapping_mul(2 * BLOCK as u64);
+        let frames = rounds.wrapping_mul(2 * u64::from(BLOCK));
         Ok(format!("frames {frames} sum {sum}"))
     }
 
-    /// Writes a block of frames, whose numbers begin with the first.
-    fn write_block(first: u64, octets: &mut [u8]) -> Result<(), Fault> {
-        for (i, room) in (first..).zip(octets.chunks_exact_mut(ROOM)) {
+    /// A frame of each kind.
+    struct Pair {
+        piece: Frame<Piece>,
+        reading: Frame<Reading>,
+    }
+
+    impl Pair {
+        fn of(number: u32) -> Result<Pair, Fault> {
             let bits = Bits {
-                first: i & 1 != 0,
-                last: i & 2 != 0,
-                toggle: i & 4 != 0,
+                first: number & 1 != 0,
+                last: number & 2 != 0,
+                toggle: number & 4 != 0,
             };
+            let body = u64::from(number).wrapping_mul(0x9E37_79B9_7F4A_7C15);
+            let piece = Piece::new(20, number, number.wrapping_mul(3), number as u16, body)?;
+            Ok(Pair {
+                piece: Frame::new(bits, piece),
+                reading: Frame::new(bits, Reading::new(number)),
+            })
+        }
+    }
+
+    fn write_block(pairs: &[Pair], octets: &mut [u8]) -> Result<(), Fault> {
+        for (pair, room) in pairs.iter().zip(octets.chunks_exact_mut(ROOM)) {
             let (at_piece, at_reading) = room.split_at_mut(FRAME_OCTETS);
-            Frame::new(bits, piece(i)?).write(at_piece)?;
-            Frame::new(bits, Reading::new(i as u32)).write(at_reading)?;
+            pair.piece.write(at_piece)?;
+            pair.reading.write(at_reading)?;
         }
         Ok(())
     }
@@ -1488,18 +1504,6 @@ mod speed {
     /// The load of the frame at the front of some octets.
     fn load_at<L: Load>(octets: &[u8]) -> Result<L, Fault> {
         Ok(Frame::<L>::read(&octets[..L::SIZE + 1])?.load())
-    }
-
-    fn piece(i: u64) -> Result<Piece, Fault> {
-        let column = (i % (1 << 20)) as u32;
-        let row = (i * 3 % (1 << 20)) as u32;
-        Piece::new(
-            20,
-            column,
-            row,
-            i as u16,
-            i.wrapping_mul(0x9E37_79B9_7F4A_7C15),
-        )
     }
 }
 

@@ -2,7 +2,8 @@
 //!
 //!     compare run SEED COUNT OURS SECOND [FOLDER]   compares the programs, and prints what the sheets reached;
 //!                                                   each difference goes into FOLDER, or into the current folder
-//!     compare table SEED COUNT SECOND               prints short sheets with what SECOND prints of each, as Rattle source
+//!     compare table SEED COUNT SECOND FOLDER        adds short sheets, and what SECOND prints of each, to the files stdin and
+//!                                                   stdout in FOLDER
 //!     compare sheets SEED COUNT FOLDER              writes the sheets of a run into FOLDER
 //!
 //! Sheet I of a seed depends on the seed and on I alone.
@@ -1441,42 +1442,11 @@ fn run(seed: u64, count: usize, programs: [&str; 2], folder: &Path) -> Outcome<b
     Ok(findings.differences.is_empty())
 }
 
-const TABLE_HEAD: &str = "\
-// Call sheets made from a seed, and what the second program prints of each. Made by tools/second-cases.
-
-// A case: its name, its octets, and what it must print.
-pub struct Case {
-    pub name: &'static str,
-    pub octets: &'static [u8],
-    pub prints: &'static str,
-}
-";
-
-/// An octet in a literal: a letter as it is, any other in hexadecimal.
-fn escaped(octet: &u8) -> String {
-    match octet {
-        b'A'..=b'Z' => char::from(*octet).to_string(),
-        _ => format!("\\x{octet:02X}"),
-    }
-}
-
-/// How many octets of source a part of the table has at most, unless it is one case: the prover goes through a part in one
-/// declaration, and a part of 12,679 octets is known to stay within its steps, one of 32,901 is known not to.
-const PART_OCTETS: usize = 10_000;
-
-/// A case of the table.
-fn case_text(name: &str, octets: &[u8], prints: &str) -> String {
-    let octets: String = octets.iter().map(escaped).collect();
-    let prints = prints.escape_default();
-    format!(
-        "    Case {{\n        name: \"{name}\",\n        octets: b\"{octets}\",\n        prints: \"{prints}\",\n    }},\n"
-    )
-}
-
-/// Prints the table of a seed in parts, with what the program prints of each sheet.
-fn table(seed: u64, count: usize, program: &str) -> Outcome<bool> {
-    let mut parts: Vec<Vec<String>> = Vec::new();
-    let mut room = 0;
+/// Adds the table of a seed to the files stdin and stdout of the folder: to the first a line for each sheet, with its name
+/// and its octets in hexadecimal, to the second the name and what the program prints of the sheet.
+fn table(seed: u64, count: usize, program: &str, folder: &Path) -> Outcome<bool> {
+    let mut stdin = appended(&folder.join("stdin"))?;
+    let mut stdout = appended(&folder.join("stdout"))?;
     let mut numbers = [0; CLASSES.len()];
     for index in 0..count {
         let sheet = table_sheet(seed, index, count);
@@ -1486,23 +1456,17 @@ fn table(seed: u64, count: usize, program: &str) -> Outcome<bool> {
         }
         numbers[sheet.class] += 1;
         let name = format!("{}-{:03}", CLASSES[sheet.class].name, numbers[sheet.class]);
-        let case = case_text(&name, &sheet.octets, &String::from_utf8(ran.printed)?);
-        if parts.is_empty() || room < case.len() {
-            parts.push(Vec::new());
-            room = PART_OCTETS;
-        }
-        room = room.saturating_sub(case.len());
-        parts.last_mut().ok_or("no part")?.push(case);
-    }
-    print!("{TABLE_HEAD}");
-    for (place, cases) in parts.iter().enumerate() {
-        let (number, length) = (place + 1, cases.len());
-        println!(
-            "\n#[rattlefmt::skip]\npub const CASES_{number}: [Case; {length}] = [\n{}];",
-            cases.concat()
-        );
+        let octets: String = sheet.octets.iter().map(|octet| format!("{octet:02X}")).collect();
+        writeln!(stdin, "{name} {octets}")?;
+        writeln!(stdout, "{name}")?;
+        stdout.write_all(&ran.printed)?;
     }
     Ok(true)
+}
+
+/// A file to write behind what it has.
+fn appended(path: &Path) -> Outcome<fs::File> {
+    Ok(fs::OpenOptions::new().append(true).create(true).open(path)?)
 }
 
 /// Writes the sheets of a run as files of octets.
@@ -1525,9 +1489,9 @@ fn command(arguments: &[&str]) -> Outcome<bool> {
         ["run", seed, count, ours, second, folder] => {
             run(seed.parse()?, count.parse()?, [ours, second], Path::new(folder))
         }
-        ["table", seed, count, second] => table(seed.parse()?, count.parse()?, second),
+        ["table", seed, count, second, folder] => table(seed.parse()?, count.parse()?, second, Path::new(folder)),
         ["sheets", seed, count, folder] => sheets(seed.parse()?, count.parse()?, Path::new(folder)),
-        _ => Err("give: run SEED COUNT OURS SECOND [FOLDER], table SEED COUNT SECOND, or sheets SEED COUNT FOLDER".into()),
+        _ => Err("give: run SEED COUNT OURS SECOND [FOLDER], table SEED COUNT SECOND FOLDER, or sheets SEED COUNT FOLDER".into()),
     }
 }
 

@@ -7,10 +7,6 @@ mod bookcases;
 #[cfg(test)]
 mod callcases;
 #[cfg(test)]
-mod examplecases;
-#[cfg(test)]
-mod examples;
-#[cfg(test)]
 mod firstfaults;
 #[cfg(test)]
 mod lines;
