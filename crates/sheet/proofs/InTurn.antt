@@ -34,16 +34,16 @@ module _ {T : Type 0} where
 
 -- by how far the sections of a sheet were read: what the whole comes to, and that the section that fails is what it fails by
 module _ {T : Type 0} (kind : Ghosts T) (layout : Layout) (octets : List ℕ) where
-  abbrev one : Result (List (PartState T)) SheetFault
+  abbrev pub one : Result (List (PartState T)) SheetFault
   one = section_reads kind section.Book 0 (take layout.to_hut octets)
 
-  abbrev two : Result (List (PartState T)) SheetFault
+  abbrev pub two : Result (List (PartState T)) SheetFault
   two = section_reads kind (section.Marks ToHut) layout.to_hut (slice_range octets layout.to_hut layout.back)
 
-  abbrev three : Result (List (PartState T)) SheetFault
+  abbrev pub three : Result (List (PartState T)) SheetFault
   three = section_reads kind (section.Marks Back) layout.back (slice_range octets layout.back layout.calls)
 
-  abbrev four : Result (List (PartState T)) SheetFault
+  abbrev pub four : Result (List (PartState T)) SheetFault
   four = section_reads kind section.Calls layout.calls (slice_range octets layout.calls layout.trailer)
 
   abbrev whole : Result (List (PartState T)) SheetFault

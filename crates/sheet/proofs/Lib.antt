@@ -3,4 +3,5 @@ pub mod Chains
 pub mod Contents
 pub mod Cuts
 pub mod InTurn
+pub mod Passes
 pub mod Wholes

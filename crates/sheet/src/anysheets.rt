@@ -1,5 +1,6 @@
 // A sheet of whichever kind of load its trailer names.
 ghost use Rattle.std.specs.Prelude.{◌≡◌, Ok, MatchResult, IfOk, IfErr};
+ghost use Rattle.std.specs.Result.{IsOk};
 ghost use Rattle.sheet.specs.AnySheets.{sheet_reads, OctetsBefore, Covered};
 ghost use Rattle.sheet.specs.declared.faults.ReadError.TheVariants.{NoMemory};
 ghost use Rattle.sheet.specs.Faults.{Fails};
@@ -20,10 +21,12 @@ pub enum AnySheet<'s> {
 
 impl<'s> AnySheet<'s> {
     // The sheet that octets are, or why they are none. Open: whether there is memory for it, where
-    // the trailer is good and octets stand before it.
+    // they are a sheet and octets stand before the trailer.
+    #[tactic(auto, using(crate::proofs::Passes::readings_pass, crate::proofs::Passes::pieces_pass))]
     pub fn read(heap: Global, octets: &'s [u8]) -> Result<AnySheet<'s>, ReadError>
         ensures cases { MatchResult result (λ sheet. sheet_reads octets.now ≡ Ok sheet) (λ error. Fails (sheet_reads octets.now) error) }
         ensures memory { IfErr result (λ error. error ≡ NoMemory → OctetsBefore (layout_reads octets.now)) }
+        ensures good { IfErr result (λ error. error ≡ NoMemory → IsOk (sheet_reads octets.now)) }
         ensures law { IfOk result (λ sheet. Covered sheet octets.now) }
     {
         let layout = Layout::read(octets)?;

@@ -3,6 +3,7 @@
 #![tactic(auto)]
 
 mod anysheets;
+mod checks;
 mod faults;
 mod layouts;
 mod parts;

@@ -25,7 +25,7 @@ pub(crate) enum Section {
 impl Section {
     // The most records of the section. Each load of a sheet's book has octets, so there are no more loads than
     // octets.
-    fn room(self, octets: &[u8]) -> usize
+    pub(crate) fn room(self, octets: &[u8]) -> usize
         ensures answer { result ≡ room_of self octets.now }
     {
         match self {
@@ -36,7 +36,7 @@ impl Section {
     }
 
     // What one record too many is turned down for.
-    fn refusal(self) -> SheetRefusal
+    pub(crate) fn refusal(self) -> SheetRefusal
         ensures answer { result ≡ refusal_of self }
     {
         match self {
@@ -47,7 +47,7 @@ impl Section {
     }
 
     // The record at the front, and the octets behind it.
-    fn record<'s, T: Load>(
+    pub(crate) fn record<'s, T: Load>(
         self,
         place: usize,
         octets: &'s [u8],

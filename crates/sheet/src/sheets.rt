@@ -1,5 +1,6 @@
 // A sheet: its parts in order, and what they give a run.
 ghost use Rattle.std.specs.Prelude.{◌≡◌, ◌<◌, ◌≤◌, Ok, Err, Some, MatchResult, IfOk, IfErr, length, map, take, vec_items};
+ghost use Rattle.std.specs.Result.{IsOk};
 ghost use Rattle.channels.specs.Marks.{marks_read};
 ghost use Rattle.link.specs.Timers.{most_repeats};
 ghost use Rattle.sheet.specs.declared.faults.ReadError.TheVariants.{NoMemory};
@@ -8,6 +9,7 @@ ghost use Rattle.sheet.specs.Layouts.{layout_reads};
 ghost use Rattle.sheet.specs.Parts.{part_state, loads_in, calls_in};
 ghost use Rattle.sheet.specs.Sheets.{parts_read, sheet_read, Covers};
 
+use crate::checks::check_parts;
 use crate::faults::ReadError;
 use crate::layouts::Layout;
 use crate::parts::{Part, Way};
@@ -147,7 +149,9 @@ fn read_parts<'s, T: Load>(
 }
 
 impl<'s, T: Load> Sheet<'s, T> {
-    // The sheet of a layout. Open: whether there is memory for it, where octets stand before the trailer.
+    // The sheet of a layout. Open: whether there is memory for it, where it is not turned down and octets stand before the
+    // trailer.
+    #[tactic(auto, using(crate::proofs::Passes::sheet_passes))]
     pub(crate) fn read(
         heap: Global,
         layout: &Layout,
@@ -156,8 +160,10 @@ impl<'s, T: Load> Sheet<'s, T> {
         requires { layout_reads octets.now ≡ Ok layout.now }
         ensures cases { MatchResult result (λ sheet. sheet_read T.Load layout.now octets.now ≡ Ok sheet) (λ error. Fails (sheet_read T.Load layout.now octets.now) error) }
         ensures memory { IfErr result (λ error. error ≡ NoMemory → 0 < layout.now.trailer) }
+        ensures good { IfErr result (λ error. error ≡ NoMemory → IsOk (sheet_read T.Load layout.now octets.now)) }
         ensures law { IfOk result (λ sheet. Covers sheet.parts octets.now) }
     {
+        check_parts::<T>(layout, octets)?;
         let sections = layout.sections(octets);
         let parts = read_parts(heap, layout, octets)?;
         let Ok(book) = Book::read(heap, count_loads(&parts), sections.book) else {
