@@ -18,7 +18,7 @@ returns-clause-after c =
     let rest4 : c.unwrap-4.result.1.now ≡ drop 2 c.unwrap-3.result.1.now = search rules in
     let rest5 : c.unwrap-5.result.1.now ≡ drop 8 c.unwrap-4.result.1.now = search rules in
     let rest : c.unwrap-5.result.1.now ≡ drop 19 buffer =
-        rest5 ∙ ap (drop 8) (rest4 ∙ ap (drop 2) (rest3 ∙ ap (drop 4) (rest2 ∙ ap (drop 4) rest1)))
-        ∙ drop-drop 8 2 (drop 4 (drop 4 (drop 1 buffer))) ∙ drop-drop 10 4 (drop 4 (drop 1 buffer))
-        ∙ drop-drop 14 4 (drop 1 buffer) ∙ drop-drop 18 1 buffer in
+    rest5 ∙ ap (drop 8) (rest4 ∙ ap (drop 2) (rest3 ∙ ap (drop 4) (rest2 ∙ ap (drop 4) rest1)))
+    ∙ drop-drop 8 2 (drop 4 (drop 4 (drop 1 buffer))) ∙ drop-drop 10 4 (drop 4 (drop 1 buffer))
+    ∙ drop-drop 14 4 (drop 1 buffer) ∙ drop-drop 18 1 buffer in
     rw (column, row, number, body, rest) (rw (le-leb (length (piece_spelled x)) (length buffer) (omega arith)))
