@@ -2,11 +2,13 @@
 
 #![tactic(auto)]
 
-ghost use Rattle.std.specs.Prelude.{IfOk};
+ghost use Rattle.std.specs.Prelude.{◌≡◌, map, IfOk};
 ghost use Rattle.link.specs.States.{plain};
 ghost use Rattle.link.specs.Histories.{Reached};
 ghost use Rattle.link.specs.Truths.{Truthful};
 ghost use Rattle.link.specs.Turns.{turns};
+ghost use Rattle.link.specs.Runs.{call_of};
+ghost use Rattle.showlink.specs.Sendings.{sendings};
 
 use channel::Channel;
 use channels::{Rain, Store, Wire};
@@ -49,12 +51,13 @@ const CALLS: [Call; 27] = [
     Call::Confirm,
 ];
 
-// Joins with 2 repeats and makes the calls. What comes is a history that leads to the link, and the law
+// Joins with 2 repeats and makes the calls, with an event for each. What comes is a history that leads to the link, and the law
 // holds of it.
 fn send_three<K: Channel<Reading>, L: Channel<EmptyLoad>>(
     link: &mut Link<Reading, K, L>,
     book: &Book<Reading>,
 ) -> Result<[Event<Reading>; 27], LinkRefusal>
+    ensures calls { IfOk result (λ log. map call_of log ≡ sendings) }
     ensures law { IfOk result (λ log. Reached book.now 2 log (plain K.Channel L.Channel link.new) × Truthful book.now 2 (turns log)) }
 {
     link.join(2)?;

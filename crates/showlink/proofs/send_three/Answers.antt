@@ -9,4 +9,7 @@ returns g c =
     -- the log has one entry for each call
     let size : length c.run.new.log ≡ 27 = search rules in
     let all : take 27 c.run.new.log ≡ c.run.new.log = take_all 27 c.run.new.log (omega (size, arith)) in
-    record { law = rw all at (c.in_ok-run.ensures.law 2 [] begun) }
+    record {
+      calls = rw all at c.in_ok-run.ensures.called;
+      law = rw all at (c.in_ok-run.ensures.law 2 [] begun);
+    }
