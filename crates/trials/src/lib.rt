@@ -19,6 +19,8 @@ mod linkgoeson;
 #[cfg(test)]
 mod linkkinds;
 #[cfg(test)]
+mod linkmethods;
+#[cfg(test)]
 mod linkrefusals;
 #[cfg(test)]
 mod linkruns;

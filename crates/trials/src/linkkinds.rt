@@ -1,7 +1,11 @@
 // A message of three loads over a link that loses a frame and a reply, at every load kind; and of one load over piles.
-use crate::linksteps::{done, ends, follow_link, polled, refused, told};
-use channels::{Hop, Rain, Store, Wire};
-use link::{Call, Event, Heard, Link, LinkRefusal, Mark, Word};
+use crate::linksteps::Step::{Join, Make, Outcome};
+use crate::linksteps::{
+    ARRIVED, Answered, DONE, LOST, NOT_DUE, OK, ONE, ONLY_7, STILL, Step, THREE, below, follow_new,
+    readings,
+};
+use channels::{Hop, Store, Wire};
+use link::{Answer, Call, Heard, LinkRefusal, Mark, Word};
 use loads::{Book, EmptyLoad, Load, Piece, Reading};
 use std::fmt::Debug;
 use std::process::Abort;
@@ -14,45 +18,47 @@ const THREE_PIECES: [u8; 57] = [
 ];
 
 // The first load is lost once, and the reply to the second.
-fn three_told<T: Copy>([first, second, third]: [T; 3]) -> [Event<T>; 26] {
+fn three_told<T: Copy>([first, second, third]: [T; 3]) -> [Step<T>; 28] {
+    let done: Answered<T> = Ok(Answer::Done);
+    let arrived: Answered<T> = Ok(Answer::Polled(Heard::Arrived));
+    let lost: Answered<T> = Ok(Answer::Polled(Heard::Lost));
     [
-        done(Call::Request { start: 0, count: 3 }),
-        done(Call::Send),
-        polled(Call::Carry, Heard::Lost),
-        done(Call::Retry),
-        done(Call::Send),
-        polled(Call::Carry, Heard::Arrived),
-        told(Mark::First, first),
-        done(Call::Reply),
-        polled(Call::Return, Heard::Arrived),
-        done(Call::Send),
-        polled(Call::Carry, Heard::Arrived),
-        told(Mark::Incomplete, second),
-        done(Call::Reply),
-        polled(Call::Return, Heard::Lost),
-        done(Call::Retry),
-        done(Call::Send),
-        polled(Call::Carry, Heard::Arrived),
-        refused(Call::Tell, LinkRefusal::NotDue),
-        done(Call::Reply),
-        polled(Call::Return, Heard::Arrived),
-        done(Call::Send),
-        polled(Call::Carry, Heard::Arrived),
-        told(Mark::Ok, third),
-        done(Call::Reply),
-        polled(Call::Return, Heard::Arrived),
-        ends(Word::Ok),
+        Join(2, Ok(())),
+        Make(THREE, done),
+        Make(Call::Send, done),
+        Make(Call::Carry, lost),
+        Make(Call::Retry, done),
+        Make(Call::Send, done),
+        Make(Call::Carry, arrived),
+        Make(Call::Tell, Ok(Answer::Told(Mark::First, first))),
+        Make(Call::Reply, done),
+        Make(Call::Return, arrived),
+        Make(Call::Send, done),
+        Make(Call::Carry, arrived),
+        Make(Call::Tell, Ok(Answer::Told(Mark::Incomplete, second))),
+        Make(Call::Reply, done),
+        Make(Call::Return, lost),
+        Make(Call::Retry, done),
+        Make(Call::Send, done),
+        Make(Call::Carry, arrived),
+        Make(Call::Tell, Err(LinkRefusal::NotDue)),
+        Make(Call::Reply, done),
+        Make(Call::Return, arrived),
+        Make(Call::Send, done),
+        Make(Call::Carry, arrived),
+        Make(Call::Tell, Ok(Answer::Told(Mark::Ok, third))),
+        Make(Call::Reply, done),
+        Make(Call::Return, arrived),
+        Make(Call::Confirm, Ok(Answer::Confirmed(Word::Ok))),
+        Outcome(Ok((Word::Ok, 3))),
     ]
 }
 
-// Sends the three loads of a book over a wire and a store, each below a rain.
-fn send_three<T: Load + Debug + PartialEq>(rt: &impl Abort, book: &Book<T>, events: &[Event<T>]) {
-    let to_hut = Rain::new(Wire::new(), &[1]).unwrap();
-    let back = Rain::new(Store::new(), &[0, 1]).unwrap();
-    let mut link = Link::new(to_hut, back);
-    assert_eq!(rt; link.join(2), Ok(()));
-    follow_link(rt, &mut link, book, events);
-    assert_eq!(rt; link.outcome(), Ok((Word::Ok, 3)));
+// Does the steps over a wire and a store, each below a rain.
+fn send_three<T: Load + Debug + PartialEq>(rt: &impl Abort, book: &Book<T>, steps: &[Step<T>]) {
+    let to_hut = below(rt, Wire::new(), &[1]);
+    let back = below(rt, Store::new(), &[0, 1]);
+    follow_new(rt, (to_hut, back), book, "three loads", steps);
 }
 
 #[test]
@@ -86,38 +92,34 @@ fn three_empty_loads_are_told(rt: HostRuntime) -> Result<(), Fail> {
 }
 
 // A frame in a hop is STILL at the first poll, and at one more below mark 2.
+const OVER_HOPS: [Step<Reading>; 20] = [
+    Join(1, Ok(())),
+    Make(ONE, DONE),
+    Make(Call::Send, DONE),
+    Make(Call::Carry, STILL),
+    Make(Call::Carry, STILL),
+    Make(Call::Carry, ARRIVED),
+    Make(Call::Tell, ONLY_7),
+    Make(Call::Reply, DONE),
+    Make(Call::Return, STILL),
+    Make(Call::Return, LOST),
+    Make(Call::Retry, DONE),
+    Make(Call::Send, DONE),
+    Make(Call::Carry, STILL),
+    Make(Call::Carry, ARRIVED),
+    Make(Call::Tell, NOT_DUE),
+    Make(Call::Reply, DONE),
+    Make(Call::Return, STILL),
+    Make(Call::Return, ARRIVED),
+    Make(Call::Confirm, OK),
+    Outcome(Ok((Word::Ok, 1))),
+];
+
 #[test]
 fn a_load_crosses_piles_that_delay_and_lose(rt: HostRuntime) -> Result<(), Fail> {
-    let book = Book::<Reading>::read(rt.alloc(), 1, &[0, 0, 0, 7])?;
-    let to_hut = Rain::new(Hop::new(Wire::new(), Store::new()), &[2]).unwrap();
-    let back = Rain::new(Hop::new(Store::new(), Wire::new()), &[1]).unwrap();
-    let mut link = Link::new(to_hut, back);
-    assert_eq!(rt; link.join(1), Ok(()));
-    follow_link(
-        &rt,
-        &mut link,
-        &book,
-        &[
-            done(Call::Request { start: 0, count: 1 }),
-            done(Call::Send),
-            polled(Call::Carry, Heard::Still),
-            polled(Call::Carry, Heard::Still),
-            polled(Call::Carry, Heard::Arrived),
-            told(Mark::Ok, Reading { value: 7 }),
-            done(Call::Reply),
-            polled(Call::Return, Heard::Still),
-            polled(Call::Return, Heard::Lost),
-            done(Call::Retry),
-            done(Call::Send),
-            polled(Call::Carry, Heard::Still),
-            polled(Call::Carry, Heard::Arrived),
-            refused(Call::Tell, LinkRefusal::NotDue),
-            done(Call::Reply),
-            polled(Call::Return, Heard::Still),
-            polled(Call::Return, Heard::Arrived),
-            ends(Word::Ok),
-        ],
-    );
-    assert_eq!(rt; link.outcome(), Ok((Word::Ok, 1)));
+    let book = readings(rt.alloc(), 1)?;
+    let to_hut = below(&rt, Hop::new(Wire::new(), Store::new()), &[2]);
+    let back = below(&rt, Hop::new(Store::new(), Wire::new()), &[1]);
+    follow_new(&rt, (to_hut, back), &book, "over hops", &OVER_HOPS);
     Ok(())
 }

@@ -1,28 +1,26 @@
 // The refusals of a link: their numbers, and calls that are turned down by them.
-use crate::crossings::opening;
-use crate::linksteps::{done, follow_link, polled, refused};
-use channel::Channel;
-use channels::{Store, Wire};
-use link::{Call, Heard, Hut, Link, LinkRefusal, Sender};
+use crate::crossings::{follow, opening};
+use crate::linksteps::Step::{Join, Make, Outcome};
+use crate::linksteps::{
+    ARRIVED, Answered, Case, DONE, NOT_DUE, THREE, follow_cases, follow_link, follow_new, readings,
+};
+use channel::{Channel, Event};
+use channels::Store;
+use link::{Answer, Call, Hut, Link, LinkRefusal, Sender};
 use loads::{Book, EmptyLoad, Reading, Refusal};
+use std::alloc::Global;
 use std::test::Fail;
 
-const THREE_READINGS: [u8; 12] = [0, 0, 0, 7, 0, 0, 0, 8, 0, 0, 0, 9];
+const NOT_JOINED: Answered<Reading> = Err(LinkRefusal::NotJoined);
 
-const ALL: Call = Call::Request { start: 0, count: 3 };
+const NOTHING_WAITS: Answered<Reading> = Err(LinkRefusal::NothingWaits);
 
-// The calls that have to be due.
-const DUE: [Call; 9] = [
-    Call::Send,
-    Call::Tell,
-    Call::Reply,
-    Call::Retry,
-    Call::Abandon,
-    Call::Confirm,
-    Call::Part,
-    Call::Break,
-    Call::Meet,
-];
+const MESSAGE_OPEN: Answered<Reading> = Err(LinkRefusal::MessageOpen);
+
+const NO_LOAD: Answered<Reading> = Err(LinkRefusal::NoLoad);
+
+// A request of no load.
+const NONE: Call = Call::Request { start: 0, count: 0 };
 
 #[test]
 fn refusals_have_fixed_numbers(rt: HostRuntime) {
@@ -47,135 +45,191 @@ fn refusals_have_fixed_numbers(rt: HostRuntime) {
     }
 }
 
+const CASES: [Case; 4] = [
+    Case {
+        name: "a link that is not joined turns every call down",
+        to_hut: &[],
+        back: &[],
+        loads: 3,
+        steps: &[
+            Make(Call::Send, NOT_JOINED),
+            Make(Call::Tell, NOT_JOINED),
+            Make(Call::Reply, NOT_JOINED),
+            Make(Call::Retry, NOT_JOINED),
+            Make(Call::Abandon, NOT_JOINED),
+            Make(Call::Confirm, NOT_JOINED),
+            Make(Call::Part, NOT_JOINED),
+            Make(Call::Break, NOT_JOINED),
+            Make(Call::Meet, NOT_JOINED),
+            Make(THREE, NOT_JOINED),
+            Make(NONE, NOT_JOINED),
+            Make(Call::Carry, NOT_JOINED),
+            Make(Call::Return, NOT_JOINED),
+            Outcome(Err(LinkRefusal::NotJoined)),
+            Join(10, Ok(())),
+            Outcome(Err(LinkRefusal::NoneConfirmed)),
+        ],
+    },
+    Case {
+        name: "a link joins once",
+        to_hut: &[],
+        back: &[],
+        loads: 3,
+        steps: &[
+            Join(11, Err(LinkRefusal::TooManyRepeats)),
+            Join(10, Ok(())),
+            Join(10, Err(LinkRefusal::AlreadyJoined)),
+            Join(11, Err(LinkRefusal::AlreadyJoined)),
+        ],
+    },
+    Case {
+        name: "a request while a message is open is turned down",
+        to_hut: &[],
+        back: &[],
+        loads: 3,
+        steps: &[
+            Join(0, Ok(())),
+            Make(THREE, DONE),
+            Make(THREE, MESSAGE_OPEN),
+            Make(Call::Request { start: 9, count: 0 }, MESSAGE_OPEN),
+            Outcome(Err(LinkRefusal::StillOpen)),
+        ],
+    },
+    Case {
+        name: "calls that are not due after a join are turned down",
+        to_hut: &[],
+        back: &[],
+        loads: 3,
+        steps: &[
+            Join(0, Ok(())),
+            Make(Call::Send, NOT_DUE),
+            Make(Call::Tell, NOT_DUE),
+            Make(Call::Reply, NOT_DUE),
+            Make(Call::Retry, NOT_DUE),
+            Make(Call::Abandon, NOT_DUE),
+            Make(Call::Confirm, NOT_DUE),
+            Make(Call::Part, NOT_DUE),
+            Make(Call::Break, NOT_DUE),
+            Make(Call::Meet, NOT_DUE),
+            Make(Call::Carry, NOTHING_WAITS),
+            Make(Call::Return, NOTHING_WAITS),
+            Make(THREE, DONE),
+            Make(Call::Send, DONE),
+            Make(Call::Carry, ARRIVED),
+            Make(Call::Carry, NOTHING_WAITS),
+        ],
+    },
+];
+
 #[test]
-fn a_link_that_is_not_joined_turns_every_call_down(rt: HostRuntime) -> Result<(), Fail> {
-    let book = Book::<Reading>::read(rt.alloc(), 3, &THREE_READINGS)?;
-    let mut link = Link::new(Wire::<Reading>::new(), Store::new());
-    for call in &DUE {
-        assert_eq!(rt;
-            link.step(&book, *call),
-            refused(*call, LinkRefusal::NotJoined)
-        );
-    }
-    for call in &[
-        ALL,
-        Call::Request { start: 0, count: 0 },
-        Call::Carry,
-        Call::Return,
-    ] {
-        assert_eq!(rt;
-            link.step(&book, *call),
-            refused(*call, LinkRefusal::NotJoined)
-        );
-    }
-    assert_eq!(rt; link.outcome(), Err(LinkRefusal::NotJoined));
-    assert_eq!(rt; link.join(10), Ok(()));
-    assert_eq!(rt; link.outcome(), Err(LinkRefusal::NoneConfirmed));
+fn calls_are_turned_down_by_what_went_before(rt: HostRuntime) -> Result<(), Fail> {
+    follow_cases(&rt, rt.alloc(), &CASES)
+}
+
+#[test]
+fn a_link_does_not_join_while_a_frame_waits(rt: HostRuntime) -> Result<(), Fail> {
+    let book = readings(rt.alloc(), 0)?;
+    let mut to_hut = Store::new();
+    follow(
+        &rt,
+        &mut to_hut,
+        &[Event::Put(opening(Reading { value: 7 }), Ok(()))],
+    );
+    let mut link = Link::new(to_hut, Store::new());
+    let holds = Join(0, Err(LinkRefusal::ChannelHolds));
+    let too_many = Join(11, Err(LinkRefusal::TooManyRepeats));
+    follow_link(&rt, &mut link, &book, "to the hut", &[holds, too_many]);
+    let (to_hut, mut back) = link.into_parts();
+    assert!(rt; to_hut.holds());
+    follow(&rt, &mut back, &[Event::Put(opening(EmptyLoad), Ok(()))]);
+    let mut link = Link::new(Store::new(), back);
+    follow_link(&rt, &mut link, &book, "back", &[holds]);
     Ok(())
 }
 
-#[test]
-fn a_link_joins_once(rt: HostRuntime) {
-    let mut link = Link::<Reading, Wire<Reading>, Store<EmptyLoad>>::new(Wire::new(), Store::new());
-    assert_eq!(rt; link.join(11), Err(LinkRefusal::TooManyRepeats));
-    assert_eq!(rt; link.join(10), Ok(()));
-    assert_eq!(rt; link.join(10), Err(LinkRefusal::AlreadyJoined));
-    assert_eq!(rt; link.join(11), Err(LinkRefusal::AlreadyJoined));
-}
+const BAD_COUNT: Answered<EmptyLoad> = Err(LinkRefusal::BadCount);
 
-#[test]
-fn a_link_does_not_join_while_a_frame_waits(rt: HostRuntime) {
-    let mut to_hut = Store::new();
-    assert_eq!(rt; to_hut.put(&opening(Reading { value: 7 })), Ok(()));
-    let mut link = Link::new(to_hut, Store::new());
-    assert_eq!(rt; link.join(0), Err(LinkRefusal::ChannelHolds));
-    assert_eq!(rt; link.join(11), Err(LinkRefusal::TooManyRepeats));
-    let (to_hut, mut back) = link.into_parts();
-    assert!(rt; to_hut.holds());
-    assert_eq!(rt; back.put(&opening(EmptyLoad)), Ok(()));
-    let mut link = Link::new(Store::<Reading>::new(), back);
-    assert_eq!(rt; link.join(0), Err(LinkRefusal::ChannelHolds));
+const BEYOND_BOOK: Answered<EmptyLoad> = Err(LinkRefusal::BeyondBook);
+
+const TAKEN: Answered<EmptyLoad> = Ok(Answer::Done);
+
+// A start, a count, and what a request of them answers, over a book of 4,096 loads.
+const REQUESTS: [(u16, u16, Answered<EmptyLoad>); 8] = [
+    (0, 0, BAD_COUNT),
+    (0, 4_097, BAD_COUNT),
+    (65_535, 65_535, BAD_COUNT),
+    (1, 4_096, BEYOND_BOOK),
+    (4_096, 1, BEYOND_BOOK),
+    (65_535, 4_096, BEYOND_BOOK),
+    (4_095, 1, TAKEN),
+    (0, 4_096, TAKEN),
+];
+
+// Such a book.
+fn empty_loads(heap: Global) -> Result<Book<EmptyLoad>, Fail> {
+    let book = Book::<EmptyLoad>::read(heap, 4_096, &[])?;
+    Ok(book)
 }
 
 #[test]
 fn requests_are_held_to_the_book(rt: HostRuntime) -> Result<(), Fail> {
-    let book = Book::<EmptyLoad>::read(rt.alloc(), 4_096, &[])?;
-    let cases = [
-        (0, 0, Err(LinkRefusal::BadCount)),
-        (0, 4_097, Err(LinkRefusal::BadCount)),
-        (65_535, 65_535, Err(LinkRefusal::BadCount)),
-        (1, 4_096, Err(LinkRefusal::BeyondBook)),
-        (4_096, 1, Err(LinkRefusal::BeyondBook)),
-        (65_535, 4_096, Err(LinkRefusal::BeyondBook)),
-        (4_095, 1, Ok(())),
-        (0, 4_096, Ok(())),
-    ];
-    for (start, count, answer) in &cases {
-        let mut link = Link::new(Store::<EmptyLoad>::new(), Store::new());
-        assert_eq!(rt; link.join(0), Ok(()));
-        assert_eq!(rt; link.request(&book, *start, *count), *answer);
-    }
-    Ok(())
-}
-
-#[test]
-fn a_request_while_a_message_is_open_is_turned_down(rt: HostRuntime) -> Result<(), Fail> {
-    let book = Book::<Reading>::read(rt.alloc(), 3, &THREE_READINGS)?;
-    let mut link = Link::new(Wire::<Reading>::new(), Store::new());
-    assert_eq!(rt; link.join(0), Ok(()));
-    assert_eq!(rt; link.request(&book, 0, 3), Ok(()));
-    assert_eq!(rt; link.request(&book, 0, 3), Err(LinkRefusal::MessageOpen));
-    assert_eq!(rt; link.request(&book, 9, 0), Err(LinkRefusal::MessageOpen));
-    assert_eq!(rt; link.outcome(), Err(LinkRefusal::StillOpen));
-    Ok(())
-}
-
-#[test]
-fn calls_that_are_not_due_after_a_join_are_turned_down(rt: HostRuntime) -> Result<(), Fail> {
-    let book = Book::<Reading>::read(rt.alloc(), 3, &THREE_READINGS)?;
-    let mut link = Link::new(Wire::<Reading>::new(), Store::new());
-    assert_eq!(rt; link.join(0), Ok(()));
-    for call in &DUE {
-        assert_eq!(rt;
-            link.step(&book, *call),
-            refused(*call, LinkRefusal::NotDue)
+    let book = empty_loads(rt.alloc())?;
+    for (start, count, answer) in REQUESTS {
+        let steps = [
+            Join(0, Ok(())),
+            Make(Call::Request { start, count }, answer),
+        ];
+        follow_new(
+            &rt,
+            (Store::new(), Store::new()),
+            &book,
+            "a request",
+            &steps,
         );
     }
-    follow_link(
-        &rt,
-        &mut link,
-        &book,
-        &[
-            refused(Call::Carry, LinkRefusal::NothingWaits),
-            refused(Call::Return, LinkRefusal::NothingWaits),
-            done(ALL),
-            done(Call::Send),
-            polled(Call::Carry, Heard::Arrived),
-            refused(Call::Carry, LinkRefusal::NothingWaits),
-        ],
-    );
     Ok(())
 }
 
 #[test]
 fn a_send_needs_the_load_in_the_book_that_is_given(rt: HostRuntime) -> Result<(), Fail> {
-    let book = Book::<Reading>::read(rt.alloc(), 3, &THREE_READINGS)?;
-    let shorter = Book::<Reading>::read(rt.alloc(), 2, &THREE_READINGS)?;
-    let mut link = Link::new(Wire::<Reading>::new(), Store::new());
-    assert_eq!(rt; link.join(0), Ok(()));
-    assert_eq!(rt; link.request(&book, 2, 1), Ok(()));
-    assert_eq!(rt; link.send(&shorter), Err(LinkRefusal::NoLoad));
-    assert_eq!(rt; link.send(&book), Ok(()));
-    assert_eq!(rt; link.send(&shorter), Err(LinkRefusal::NotDue));
+    let book = readings(rt.alloc(), 3)?;
+    let shorter = readings(rt.alloc(), 2)?;
+    let mut link = Link::new(Store::new(), Store::new());
+    let third = Call::Request { start: 2, count: 1 };
+    follow_link(
+        &rt,
+        &mut link,
+        &book,
+        "asks",
+        &[Join(0, Ok(())), Make(third, DONE)],
+    );
+    follow_link(
+        &rt,
+        &mut link,
+        &shorter,
+        "no third",
+        &[Make(Call::Send, NO_LOAD)],
+    );
+    follow_link(&rt, &mut link, &book, "third", &[Make(Call::Send, DONE)]);
+    follow_link(
+        &rt,
+        &mut link,
+        &shorter,
+        "sent",
+        &[Make(Call::Send, NOT_DUE)],
+    );
     Ok(())
 }
 
 #[test]
-fn an_end_is_turned_down_by_a_full_channel(rt: HostRuntime) -> Result<(), Fail> {
-    let book = Book::<Reading>::read(rt.alloc(), 3, &THREE_READINGS)?;
-    let frame = opening(Reading { value: 7 });
+fn a_send_is_turned_down_by_a_full_channel(rt: HostRuntime) -> Result<(), Fail> {
+    let book = readings(rt.alloc(), 3)?;
     let mut to_hut = Store::new();
-    assert_eq!(rt; to_hut.put(&frame), Ok(()));
+    follow(
+        &rt,
+        &mut to_hut,
+        &[Event::Put(opening(Reading { value: 7 }), Ok(()))],
+    );
     let mut sender = Sender::new();
     assert_eq!(rt; sender.request(book.len(), 0, 3), Ok(()));
     assert_eq!(rt;
@@ -183,12 +237,16 @@ fn an_end_is_turned_down_by_a_full_channel(rt: HostRuntime) -> Result<(), Fail> 
         Err(LinkRefusal::ChannelFull)
     );
     assert_eq!(rt; sender.send(&book, &mut Store::new()), Ok(()));
+    Ok(())
+}
+
+#[test]
+fn a_reply_is_turned_down_by_a_full_channel(rt: HostRuntime) {
     let mut back = Store::new();
-    assert_eq!(rt; back.put(&opening(EmptyLoad)), Ok(()));
+    follow(&rt, &mut back, &[Event::Put(opening(EmptyLoad), Ok(()))]);
     let mut hut = Hut::new();
-    hut.carry(&frame);
+    hut.carry(&opening(Reading { value: 7 }));
     assert!(rt; hut.tell().is_ok());
     assert_eq!(rt; hut.reply(&mut back), Err(LinkRefusal::ChannelFull));
     assert_eq!(rt; hut.reply(&mut Store::new()), Ok(()));
-    Ok(())
 }

@@ -1,11 +1,30 @@
-// Runs of a link: one after another, with a short log, and on a link that is not joined; and calls made one by one.
-use crate::linksteps::{done, ends, polled, refused, told};
+// Runs of a link: one after another, with a short log, and on a link that is not joined.
+use crate::linksteps::Step::{Join, Make, Outcome};
+use crate::linksteps::{
+    ARRIVED, Answered, DONE, FIRST_7, LAST_8, NOT_DUE, OK, Step, TWO, follow_link, readings,
+};
 use channels::{Store, Wire};
-use link::{Answer, Call, Event, Heard, Link, LinkRefusal, Mark, Word};
-use loads::{Book, Reading};
+use link::{Answer, Call, Event, Link, LinkRefusal, Word};
+use loads::{Book, EmptyLoad, Reading};
+use std::alloc::Global;
+use std::process::Abort;
 use std::test::Fail;
 
-const TWO_READINGS: [u8; 8] = [0, 0, 0, 7, 0, 0, 0, 8];
+// A run, with the log before and after it, and what is done then.
+struct Run {
+    calls: &'static [Call],
+    before: &'static [Event<Reading>],
+    answer: Result<(), LinkRefusal>,
+    after: &'static [Event<Reading>],
+    then: &'static [Step<Reading>],
+}
+
+// A link over a book of two readings, with what is done before the first run.
+struct Case {
+    name: &'static str,
+    start: &'static [Step<Reading>],
+    runs: &'static [Run],
+}
 
 // An event that no run here writes.
 const UNUSED: Event<Reading> = Event {
@@ -13,114 +32,178 @@ const UNUSED: Event<Reading> = Event {
     answer: Ok(Answer::Confirmed(Word::DontKnow)),
 };
 
-#[test]
-fn a_run_goes_on_where_another_ended(rt: HostRuntime) -> Result<(), Fail> {
-    let book = Book::<Reading>::read(rt.alloc(), 2, &TWO_READINGS)?;
-    let mut link = Link::new(Wire::<Reading>::new(), Store::new());
-    assert_eq!(rt; link.join(0), Ok(()));
-    let mut log = [UNUSED; 6];
-    let calls = [
-        Call::Request { start: 0, count: 2 },
-        Call::Send,
-        Call::Carry,
-        Call::Tell,
-    ];
-    assert_eq!(rt; link.run(&book, &calls, &mut log), Ok(()));
-    assert_eq!(rt;
-        log,
-        [
-            done(Call::Request { start: 0, count: 2 }),
-            done(Call::Send),
-            polled(Call::Carry, Heard::Arrived),
-            told(Mark::First, Reading { value: 7 }),
-            UNUSED,
-            UNUSED,
-        ]
-    );
-    let calls = [
-        Call::Tell,
-        Call::Reply,
-        Call::Return,
-        Call::Send,
-        Call::Carry,
-        Call::Tell,
-    ];
-    assert_eq!(rt; link.run(&book, &calls, &mut log), Ok(()));
-    assert_eq!(rt;
-        log,
-        [
-            refused(Call::Tell, LinkRefusal::NotDue),
-            done(Call::Reply),
-            polled(Call::Return, Heard::Arrived),
-            done(Call::Send),
-            polled(Call::Carry, Heard::Arrived),
-            told(Mark::Ok, Reading { value: 8 }),
-        ]
-    );
-    assert_eq!(rt; link.reply(), Ok(()));
-    assert_eq!(rt;
-        link.step(&book, Call::Return),
-        polled(Call::Return, Heard::Arrived)
-    );
-    assert_eq!(rt; link.confirm(), Ok(Word::Ok));
-    assert_eq!(rt; link.outcome(), Ok((Word::Ok, 2)));
+const NOT_JOINED: Answered<Reading> = Err(LinkRefusal::NotJoined);
+
+// A request of no load.
+const NONE: Call = Call::Request { start: 0, count: 0 };
+
+// What the first run of the first case writes, in a log with room for two events more.
+const FIRST_LOG: [Event<Reading>; 6] = [
+    Event {
+        call: TWO,
+        answer: DONE,
+    },
+    Event {
+        call: Call::Send,
+        answer: DONE,
+    },
+    Event {
+        call: Call::Carry,
+        answer: ARRIVED,
+    },
+    Event {
+        call: Call::Tell,
+        answer: FIRST_7,
+    },
+    UNUSED,
+    UNUSED,
+];
+
+const CASES: [Case; 3] = [
+    Case {
+        name: "a run goes on where another ended",
+        start: &[Join(0, Ok(()))],
+        runs: &[
+            Run {
+                calls: &[TWO, Call::Send, Call::Carry, Call::Tell],
+                before: &[UNUSED, UNUSED, UNUSED, UNUSED, UNUSED, UNUSED],
+                answer: Ok(()),
+                after: &FIRST_LOG,
+                then: &[],
+            },
+            Run {
+                calls: &[
+                    Call::Tell,
+                    Call::Reply,
+                    Call::Return,
+                    Call::Send,
+                    Call::Carry,
+                    Call::Tell,
+                ],
+                before: &FIRST_LOG,
+                answer: Ok(()),
+                after: &[
+                    Event {
+                        call: Call::Tell,
+                        answer: NOT_DUE,
+                    },
+                    Event {
+                        call: Call::Reply,
+                        answer: DONE,
+                    },
+                    Event {
+                        call: Call::Return,
+                        answer: ARRIVED,
+                    },
+                    Event {
+                        call: Call::Send,
+                        answer: DONE,
+                    },
+                    Event {
+                        call: Call::Carry,
+                        answer: ARRIVED,
+                    },
+                    Event {
+                        call: Call::Tell,
+                        answer: LAST_8,
+                    },
+                ],
+                then: &[
+                    Make(Call::Reply, DONE),
+                    Make(Call::Return, ARRIVED),
+                    Make(Call::Confirm, OK),
+                    Outcome(Ok((Word::Ok, 2))),
+                ],
+            },
+        ],
+    },
+    Case {
+        name: "a short log stays and no call is made",
+        start: &[Join(0, Ok(()))],
+        runs: &[
+            Run {
+                calls: &[TWO, Call::Send],
+                before: &[UNUSED],
+                answer: Err(LinkRefusal::ShortLog),
+                after: &[UNUSED],
+                then: &[Outcome(Err(LinkRefusal::NoneConfirmed))],
+            },
+            Run {
+                calls: &[],
+                before: &[],
+                answer: Ok(()),
+                after: &[],
+                then: &[],
+            },
+            Run {
+                calls: &[Call::Send],
+                before: &[UNUSED],
+                answer: Ok(()),
+                after: &[Event {
+                    call: Call::Send,
+                    answer: NOT_DUE,
+                }],
+                then: &[],
+            },
+        ],
+    },
+    Case {
+        name: "a run of a link that is not joined logs refusals",
+        start: &[],
+        runs: &[Run {
+            calls: &[NONE, Call::Carry],
+            before: &[UNUSED, UNUSED, UNUSED],
+            answer: Ok(()),
+            after: &[
+                Event {
+                    call: NONE,
+                    answer: NOT_JOINED,
+                },
+                Event {
+                    call: Call::Carry,
+                    answer: NOT_JOINED,
+                },
+                UNUSED,
+            ],
+            then: &[],
+        }],
+    },
+];
+
+type Plain = Link<Reading, Wire<Reading>, Store<EmptyLoad>>;
+
+// Makes a run, with a log of its own.
+fn make_run(
+    rt: &impl Abort,
+    heap: Global,
+    link: &mut Plain,
+    book: &Book<Reading>,
+    name: &str,
+    run: &Run,
+) -> Result<(), Fail> {
+    let mut log = run.before.to_vec(heap)?;
+    assert_eq!(rt; link.run(book, run.calls, &mut log), run.answer, "{name}");
+    assert_eq!(rt; log.as_slice(), run.after, "{name}");
+    Ok(())
+}
+
+// Makes the runs of a case in order.
+fn make_runs(rt: &impl Abort, heap: Global, case: &Case) -> Result<(), Fail> {
+    let book = readings(heap, 2)?;
+    let mut link = Link::new(Wire::new(), Store::new());
+    let name = case.name;
+    follow_link(rt, &mut link, &book, name, case.start);
+    for run in case.runs {
+        make_run(rt, heap, &mut link, &book, name, run)?;
+        follow_link(rt, &mut link, &book, name, run.then);
+    }
     Ok(())
 }
 
 #[test]
-fn a_short_log_stays_and_no_call_is_made(rt: HostRuntime) -> Result<(), Fail> {
-    let book = Book::<Reading>::read(rt.alloc(), 2, &TWO_READINGS)?;
-    let mut link = Link::new(Wire::<Reading>::new(), Store::new());
-    assert_eq!(rt; link.join(0), Ok(()));
-    let mut log = [UNUSED; 1];
-    let calls = [Call::Request { start: 0, count: 2 }, Call::Send];
-    assert_eq!(rt;
-        link.run(&book, &calls, &mut log),
-        Err(LinkRefusal::ShortLog)
-    );
-    assert_eq!(rt; log, [UNUSED]);
-    assert_eq!(rt; link.outcome(), Err(LinkRefusal::NoneConfirmed));
-    assert_eq!(rt; link.run(&book, &[], &mut []), Ok(()));
-    assert_eq!(rt; link.run(&book, &calls[1..], &mut log), Ok(()));
-    assert_eq!(rt; log, [refused(Call::Send, LinkRefusal::NotDue)]);
-    Ok(())
-}
-
-#[test]
-fn a_run_of_a_link_that_is_not_joined_logs_refusals(rt: HostRuntime) -> Result<(), Fail> {
-    let book = Book::<Reading>::read(rt.alloc(), 2, &TWO_READINGS)?;
-    let mut link = Link::new(Wire::<Reading>::new(), Store::new());
-    let mut log = [UNUSED; 3];
-    let calls = [Call::Request { start: 0, count: 0 }, Call::Carry];
-    assert_eq!(rt; link.run(&book, &calls, &mut log), Ok(()));
-    assert_eq!(rt;
-        log,
-        [
-            refused(Call::Request { start: 0, count: 0 }, LinkRefusal::NotJoined),
-            refused(Call::Carry, LinkRefusal::NotJoined),
-            UNUSED,
-        ]
-    );
-    Ok(())
-}
-
-#[test]
-fn calls_by_their_methods_up_to_a_break(rt: HostRuntime) -> Result<(), Fail> {
-    let book = Book::<Reading>::read(rt.alloc(), 2, &TWO_READINGS)?;
-    let mut link = Link::new(Wire::<Reading>::new(), Store::new());
-    link.join(0)?;
-    link.request(&book, 0, 2)?;
-    link.send(&book)?;
-    assert_eq!(rt; link.carry()?, Heard::Arrived);
-    assert_eq!(rt; link.tell()?, (Mark::First, Reading { value: 7 }));
-    link.reply()?;
-    assert_eq!(rt; link.return_reply()?, Heard::Arrived);
-    link.abandon()?;
-    assert_eq!(rt; link.retry(), Err(LinkRefusal::NotDue));
-    assert_eq!(rt; link.confirm()?, Word::NotOk);
-    link.part()?;
-    link.tell_break()?;
-    link.meet()?;
-    assert_eq!(rt; link.outcome()?, (Word::NotOk, 1));
+fn runs_write_their_logs(rt: HostRuntime) -> Result<(), Fail> {
+    for case in &CASES {
+        make_runs(&rt, rt.alloc(), case)?;
+    }
     Ok(())
 }

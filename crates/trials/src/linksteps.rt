@@ -1,58 +1,139 @@
-// What the cases on links share: events that a link is held against.
+// What the cases on links share: what is done with a link and what it must answer, and how a table of such cases is followed.
 use channel::Channel;
-use link::{Answer, Call, Event, Heard, Link, LinkRefusal, Mark, Word};
-use loads::{Book, EmptyLoad, Load};
+use channels::{Rain, Store, Wire};
+use link::{Answer, Call, Heard, Link, LinkRefusal, Mark, Word};
+use loads::{Book, EmptyLoad, Load, Reading};
+use std::alloc::Global;
 use std::fmt::Debug;
 use std::process::Abort;
+use std::test::Fail;
 
-// A call that is accepted with nothing to show.
-pub fn done<T>(call: Call) -> Event<T> {
-    Event {
-        call,
-        answer: Ok(Answer::Done),
+// What a call answers.
+pub type Answered<T> = Result<Answer<T>, LinkRefusal>;
+
+pub const DONE: Answered<Reading> = Ok(Answer::Done);
+
+pub const STILL: Answered<Reading> = Ok(Answer::Polled(Heard::Still));
+
+pub const ARRIVED: Answered<Reading> = Ok(Answer::Polled(Heard::Arrived));
+
+pub const LOST: Answered<Reading> = Ok(Answer::Polled(Heard::Lost));
+
+pub const OK: Answered<Reading> = Ok(Answer::Confirmed(Word::Ok));
+
+pub const NOT_OK: Answered<Reading> = Ok(Answer::Confirmed(Word::NotOk));
+
+pub const DONT_KNOW: Answered<Reading> = Ok(Answer::Confirmed(Word::DontKnow));
+
+pub const NOT_DUE: Answered<Reading> = Err(LinkRefusal::NotDue);
+
+// The hut is told the first of the readings: as the only one of its message, or as the first of several.
+pub const ONLY_7: Answered<Reading> = Ok(Answer::Told(Mark::Ok, Reading { value: 7 }));
+
+pub const FIRST_7: Answered<Reading> = Ok(Answer::Told(Mark::First, Reading { value: 7 }));
+
+// The hut is told the second, as the last of its message.
+pub const LAST_8: Answered<Reading> = Ok(Answer::Told(Mark::Ok, Reading { value: 8 }));
+
+// A request of the first reading, of the first two, or of all three.
+pub const ONE: Call = Call::Request { start: 0, count: 1 };
+
+pub const TWO: Call = Call::Request { start: 0, count: 2 };
+
+pub const THREE: Call = Call::Request { start: 0, count: 3 };
+
+// What is done with a link, with what it must answer.
+#[derive(Clone, Copy, Debug, PartialEq)]
+pub enum Step<T> {
+    Join(u8, Result<(), LinkRefusal>),
+    Make(Call, Answered<T>),
+    Outcome(Result<(Word, u32), LinkRefusal>),
+}
+
+// A link under marks for each way, over a book of so many of three readings, and what is done with it in order.
+#[derive(Clone, Copy)]
+pub struct Case {
+    pub name: &'static str,
+    pub to_hut: &'static [u8],
+    pub back: &'static [u8],
+    pub loads: usize,
+    pub steps: &'static [Step<Reading>],
+}
+
+// A book of so many of the readings 7, 8 and 9.
+pub fn readings(heap: Global, count: usize) -> Result<Book<Reading>, Fail> {
+    let book = Book::<Reading>::read(heap, count, &[0, 0, 0, 7, 0, 0, 0, 8, 0, 0, 0, 9])?;
+    Ok(book)
+}
+
+// Does a step, and gives it with what the link answers.
+fn take<T: Load, K: Channel<T>, L: Channel<EmptyLoad>>(
+    link: &mut Link<T, K, L>,
+    book: &Book<T>,
+    step: &Step<T>,
+) -> Step<T> {
+    match *step {
+        Step::Join(repeats, _) => Step::Join(repeats, link.join(repeats)),
+        Step::Make(call, _) => {
+            let event = link.step(book, call);
+            Step::Make(event.call, event.answer)
+        }
+        Step::Outcome(_) => Step::Outcome(link.outcome()),
     }
 }
 
-// A call that is turned down.
-pub fn refused<T>(call: Call, why: LinkRefusal) -> Event<T> {
-    Event {
-        call,
-        answer: Err(why),
-    }
-}
-
-// A carry or a return with its answer.
-pub fn polled<T>(call: Call, heard: Heard) -> Event<T> {
-    Event {
-        call,
-        answer: Ok(Answer::Polled(heard)),
-    }
-}
-
-// A tell.
-pub fn told<T>(mark: Mark, load: T) -> Event<T> {
-    Event {
-        call: Call::Tell,
-        answer: Ok(Answer::Told(mark, load)),
-    }
-}
-
-// A confirm.
-pub fn ends<T>(word: Word) -> Event<T> {
-    Event {
-        call: Call::Confirm,
-        answer: Ok(Answer::Confirmed(word)),
-    }
-}
-
-// Makes the call of each event in order. The link must answer as the event says.
+// Does each step in order. The link must answer as it says.
 pub fn follow_link<T: Load + Debug + PartialEq, K: Channel<T>, L: Channel<EmptyLoad>>(
     rt: &impl Abort,
     link: &mut Link<T, K, L>,
     book: &Book<T>,
-    events: &[Event<T>],
+    name: &str,
+    steps: &[Step<T>],
 ) {
-    for event in events {
-        assert_eq!(rt; link.step(book, event.call), *event);
+    for (i, step) in steps.iter().enumerate() {
+        assert_eq!(rt; take(link, book, step), *step, "{name}, step {i}");
     }
+}
+
+// Does each step on a link over these channels, not joined.
+pub fn follow_new<T: Load + Debug + PartialEq, K: Channel<T> + Drop, L: Channel<EmptyLoad> + Drop>(
+    rt: &impl Abort,
+    (to_hut, back): (K, L),
+    book: &Book<T>,
+    name: &str,
+    steps: &[Step<T>],
+) {
+    let mut link = Link::new(to_hut, back);
+    follow_link(rt, &mut link, book, name, steps);
+}
+
+// A channel below a rain of these marks.
+pub fn below<'m, C: Drop>(rt: &impl Abort, channel: C, marks: &'m [u8]) -> Rain<'m, C> {
+    let Ok(rain) = Rain::new(channel, marks) else {
+        panic!(rt; "these are no marks");
+    };
+    rain
+}
+
+// Follows each case on a wire and a store, each below a rain, and also without rains where there are no marks.
+pub fn follow_cases(rt: &impl Abort, heap: Global, cases: &[Case]) -> Result<(), Fail> {
+    for Case {
+        name,
+        to_hut,
+        back,
+        loads,
+        steps,
+    } in cases {
+        let book = readings(heap, *loads)?;
+        let rains = (
+            below(rt, Wire::new(), to_hut),
+            below(rt, Store::new(), back),
+        );
+        follow_new(rt, rains, &book, name, steps);
+        if to_hut.is_empty() && back.is_empty() {
+            follow_new(rt, (Wire::new(), Store::new()), &book, name, steps);
+            follow_new(rt, (Store::new(), Store::new()), &book, name, steps);
+        }
+    }
+    Ok(())
 }
