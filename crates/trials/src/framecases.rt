@@ -1,23 +1,44 @@
 // Frames at their limits.
 use crate::crossings::opening;
 use loads::{EmptyLoad, Frame, Load, Piece, Reading, answer_number as number_of, frame_comes_back};
+use std::fmt::Debug;
+use std::process::Abort;
 use std::test::Fail;
 
-#[test]
-fn the_worked_frames(rt: HostRuntime) {
-    let mut octets = [0; 5];
-    assert_eq!(rt; opening(Reading { value: 7 }).write(&mut octets), Ok(()));
-    assert_eq!(rt; octets, [0x81, 0, 0, 0, 7]);
-    let reply = Frame {
-        first: false,
-        last: true,
-        toggle: true,
-        load: EmptyLoad,
+// A frame answers with this number when it is written to so many octets, and leaves these.
+fn writes<T: Load>(rt: &impl Abort, frame: &Frame<T>, room: usize, number: u8, after: &[u8]) {
+    let mut octets = [0xEE; 20];
+    let Some(buffer) = octets.get_mut(..room) else {
+        panic!(rt; "there are no more octets");
     };
-    let mut octets = [0; 1];
-    assert_eq!(rt; reply.write(&mut octets), Ok(()));
-    assert_eq!(rt; octets, [0x60]);
-    assert_eq!(rt; Frame::<EmptyLoad>::read(&octets), Ok(reply));
+    assert_eq!(rt; number_of(&frame.write(buffer)), number, "{room}");
+    assert_eq!(rt; *buffer, *after, "{room}");
+}
+
+// Octets, and the number that reading a frame from them answers.
+type Numbers = (&'static [u8], u8);
+
+// Reading a frame of this kind answers with these numbers.
+fn reads<T: Load>(rt: &impl Abort, cases: &[Numbers]) {
+    for (octets, number) in cases {
+        assert_eq!(rt; number_of(&Frame::<T>::read(octets)), *number, "{octets:?}");
+    }
+}
+
+// How many octets there are, the number that writing reading 7 answers, and the octets then.
+const ROOMS: [(usize, u8, &[u8]); 4] = [
+    (0, 14, &[]),
+    (4, 14, &[0xEE, 0xEE, 0xEE, 0xEE]),
+    (5, 0, &[0x81, 0, 0, 0, 7]),
+    (6, 0, &[0x81, 0, 0, 0, 7, 0xEE]),
+];
+
+#[test]
+fn a_frame_needs_its_room(rt: HostRuntime) {
+    let frame = opening(Reading { value: 7 });
+    for (room, number, after) in ROOMS {
+        writes(&rt, &frame, room, number, after);
+    }
 }
 
 #[test]
@@ -51,61 +72,52 @@ fn each_bit_has_its_place(rt: HostRuntime) {
             load,
         };
         assert_eq!(rt; Frame::<EmptyLoad>::read(&[header]), Ok(frame));
-        let mut octets = [0];
-        assert_eq!(rt; frame.write(&mut octets), Ok(()));
-        assert_eq!(rt; octets, [header]);
+        writes(&rt, &frame, 1, 0, &[header]);
+    }
+}
+
+// What is not of the length of its kind is turned down by 14, and another kind by 15. No map has the zoom of the last piece.
+const OF_READINGS: [Numbers; 7] = [
+    (&[], 14),
+    (&[0x81, 0, 0, 0], 14),
+    (&[0x81, 0, 0, 0, 7], 0),
+    (&[0x81, 0, 0, 0, 7, 0], 14),
+    (&[0x82, 0, 0, 0, 7], 15),
+    (&[0x80, 0, 0, 0, 7], 15),
+    (&[0x9F, 0, 0, 0, 7], 15),
+];
+
+const OF_EMPTY_LOADS: [Numbers; 2] = [(&[0x60, 0], 14), (&[0x61], 15)];
+
+const OF_PIECES: [Numbers; 3] = [(&[0x82, 21], 14), (&[0x81; 20], 15), (&[0x62; 20], 16)];
+
+#[test]
+fn a_frame_is_read_at_its_length_and_kind(rt: HostRuntime) {
+    reads::<Reading>(&rt, &OF_READINGS);
+    reads::<EmptyLoad>(&rt, &OF_EMPTY_LOADS);
+    reads::<Piece>(&rt, &OF_PIECES);
+}
+
+// A frame that is written to so many octets answers with this number, and reads back where that is 0.
+fn comes_back<T: Load + Debug + PartialEq>(rt: &impl Abort, load: T, room: usize, number: u8) {
+    let frame = opening(load);
+    let mut octets = [0xEE; 20];
+    let Some(buffer) = octets.get_mut(..room) else {
+        panic!(rt; "there are no more octets");
+    };
+    let answer = frame_comes_back(&frame, buffer);
+    assert_eq!(rt; number_of(&answer), number);
+    if let Ok(back) = answer {
+        assert_eq!(rt; back, frame);
     }
 }
 
 #[test]
-fn a_frame_needs_its_room(rt: HostRuntime) {
-    let frame = opening(Reading { value: 7 });
-    let mut short = [0xEE; 4];
-    assert_eq!(rt; number_of(&frame.write(&mut short)), 14);
-    assert_eq!(rt; short, [0xEE; 4]);
-    let mut none = [];
-    assert_eq!(rt; number_of(&frame.write(&mut none)), 14);
-    let mut long = [0xEE; 6];
-    assert_eq!(rt; number_of(&frame.write(&mut long)), 0);
-    assert_eq!(rt; long, [0x81, 0, 0, 0, 7, 0xEE]);
-}
-
-#[test]
-fn a_frame_is_read_at_its_length(rt: HostRuntime) {
-    assert_eq!(rt; number_of(&Frame::<Reading>::read(&[])), 14);
-    assert_eq!(rt; number_of(&Frame::<Reading>::read(&[0x81, 0, 0, 0])), 14);
-    assert_eq!(rt; number_of(&Frame::<Reading>::read(&[0x81, 0, 0, 0, 7])), 0);
-    assert_eq!(rt;
-        number_of(&Frame::<Reading>::read(&[0x81, 0, 0, 0, 7, 0])),
-        14
-    );
-    assert_eq!(rt; number_of(&Frame::<EmptyLoad>::read(&[0x60, 0])), 14);
-    assert_eq!(rt; number_of(&Frame::<Piece>::read(&[0x82, 21])), 14);
-}
-
-// The right number of octets, and another kind than is read.
-#[test]
-fn a_frame_is_read_at_its_kind(rt: HostRuntime) {
-    assert_eq!(rt; number_of(&Frame::<Reading>::read(&[0x82, 0, 0, 0, 7])), 15);
-    assert_eq!(rt; number_of(&Frame::<Reading>::read(&[0x80, 0, 0, 0, 7])), 15);
-    assert_eq!(rt; number_of(&Frame::<Reading>::read(&[0x9F, 0, 0, 0, 7])), 15);
-    assert_eq!(rt; number_of(&Frame::<EmptyLoad>::read(&[0x61])), 15);
-    assert_eq!(rt; number_of(&Frame::<Piece>::read(&[0x81; 20])), 15);
-    assert_eq!(rt; number_of(&Frame::<Piece>::read(&[0x62; 20])), 16);
-}
-
-#[test]
 fn frames_come_back(rt: HostRuntime) -> Result<(), Fail> {
-    let mut buffer = [0xEE; 20];
-    let reading = opening(Reading { value: 7 });
-    assert_eq!(rt; frame_comes_back(&reading, &mut buffer), Ok(reading));
-    let piece = opening(Piece::new(20, 1, 2, 3, 4)?);
-    assert_eq!(rt; frame_comes_back(&piece, &mut buffer), Ok(piece));
-    assert_eq!(rt;
-        number_of(&frame_comes_back(&piece, &mut buffer[0..19])),
-        14
-    );
-    let empty = opening(EmptyLoad);
-    assert_eq!(rt; frame_comes_back(&empty, &mut buffer[0..1]), Ok(empty));
+    comes_back(&rt, Reading { value: 7 }, 20, 0);
+    let piece = Piece::new(20, 1, 2, 3, 4)?;
+    comes_back(&rt, piece, 20, 0);
+    comes_back(&rt, piece, 19, 14);
+    comes_back(&rt, EmptyLoad, 1, 0);
     Ok(())
 }

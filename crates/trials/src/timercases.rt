@@ -2,40 +2,52 @@
 use link::{TimerRefusal, timers_fit};
 use loads::Refusal;
 
-#[test]
-fn the_sender_waits_longer_than_a_frame_and_its_reply(rt: HostRuntime) {
-    assert_eq!(rt; timers_fit(2, 2, 4, 0), Err(TimerRefusal::ShortReplyTimer));
-    assert_eq!(rt; timers_fit(2, 2, 5, 11), Ok(()));
-    assert_eq!(rt; timers_fit(0, 0, 0, 1), Err(TimerRefusal::ShortReplyTimer));
-    assert_eq!(rt; timers_fit(0, 0, 1, 1), Ok(()));
-}
+const TOO_MANY: Result<(), TimerRefusal> = Err(TimerRefusal::TooManyRepeats);
+
+const SHORT_REPLY: Result<(), TimerRefusal> = Err(TimerRefusal::ShortReplyTimer);
+
+const SHORT_HUT: Result<(), TimerRefusal> = Err(TimerRefusal::ShortHutTimer);
+
+// The repeats, the bound, t1, t2, and whether they fit.
+const TIMERS: [(u8, u16, u16, u16, Result<(), TimerRefusal>); 12] = [
+    // the sender waits longer than a frame and its reply
+    (2, 2, 4, 0, SHORT_REPLY),
+    (2, 2, 5, 11, Ok(())),
+    (0, 0, 0, 1, SHORT_REPLY),
+    (0, 0, 1, 1, Ok(())),
+    // the hut waits longer than all repeats
+    (2, 2, 5, 10, SHORT_HUT),
+    (0, 2, 5, 0, SHORT_HUT),
+    (0, 2, 5, 1, Ok(())),
+    // no timer overflows
+    (10, 65_535, 65_535, 65_535, SHORT_REPLY),
+    (10, 32_767, 65_535, 65_535, SHORT_HUT),
+    (1, 32_766, 65_533, 65_534, Ok(())),
+    // too many repeats come first
+    (11, 2, 0, 0, TOO_MANY),
+    (10, 2, 5, 51, Ok(())),
+];
 
 #[test]
-fn the_hut_waits_longer_than_all_repeats(rt: HostRuntime) {
-    assert_eq!(rt; timers_fit(2, 2, 5, 10), Err(TimerRefusal::ShortHutTimer));
-    assert_eq!(rt; timers_fit(2, 2, 5, 11), Ok(()));
-    assert_eq!(rt; timers_fit(0, 2, 5, 0), Err(TimerRefusal::ShortHutTimer));
-    assert_eq!(rt; timers_fit(0, 2, 5, 1), Ok(()));
+fn timers_have_their_limits(rt: HostRuntime) {
+    for (repeats, bound, t1, t2, answer) in TIMERS {
+        assert_eq!(rt;
+            timers_fit(repeats, bound, t1, t2),
+            answer,
+            "{repeats} repeats, {bound}, {t1}, {t2}"
+        );
+    }
 }
 
-#[test]
-fn no_timer_overflows(rt: HostRuntime) {
-    assert_eq!(rt;
-        timers_fit(10, 65_535, 65_535, 65_535),
-        Err(TimerRefusal::ShortReplyTimer)
-    );
-    assert_eq!(rt;
-        timers_fit(10, 32_767, 65_535, 65_535),
-        Err(TimerRefusal::ShortHutTimer)
-    );
-    assert_eq!(rt; timers_fit(1, 32_766, 65_533, 65_534), Ok(()));
-}
+const NUMBERS: [(TimerRefusal, u8); 3] = [
+    (TimerRefusal::TooManyRepeats, 2),
+    (TimerRefusal::ShortReplyTimer, 24),
+    (TimerRefusal::ShortHutTimer, 25),
+];
 
 #[test]
-fn too_many_repeats_come_first(rt: HostRuntime) {
-    assert_eq!(rt; timers_fit(11, 2, 0, 0), Err(TimerRefusal::TooManyRepeats));
-    assert_eq!(rt; timers_fit(10, 2, 5, 51), Ok(()));
-    assert_eq!(rt; TimerRefusal::TooManyRepeats.number(), 2);
-    assert_eq!(rt; TimerRefusal::ShortReplyTimer.number(), 24);
-    assert_eq!(rt; TimerRefusal::ShortHutTimer.number(), 25);
+fn timer_refusals_have_fixed_numbers(rt: HostRuntime) {
+    for (refusal, number) in NUMBERS {
+        assert_eq!(rt; refusal.number(), number);
+    }
 }
