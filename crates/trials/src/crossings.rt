@@ -1,5 +1,6 @@
-// What the cases on channels share: frames, and events that a channel is held against.
+// What the cases on channels share: frames, rains, and events that a channel is held against.
 use channel::{Call, Channel, Event, Poll};
+use channels::Rain;
 use loads::{Frame, Load};
 use std::fmt::Debug;
 use std::process::Abort;
@@ -22,6 +23,14 @@ pub fn opening<T>(load: T) -> Frame<T> {
 // The last frame of a message, with its toggle on.
 pub fn closing<T>(load: T) -> Frame<T> {
     framed([false, true, true], load)
+}
+
+// A channel below a rain of these marks.
+pub fn below<'m, C: Drop>(rt: &impl Abort, channel: C, marks: &'m [u8]) -> Rain<'m, C> {
+    let Ok(rain) = Rain::new(channel, marks) else {
+        panic!(rt; "these are no marks");
+    };
+    rain
 }
 
 // Whether a frame waits after an event, where the event tells: one that arrived or was lost may have others behind it.

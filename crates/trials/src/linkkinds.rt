@@ -1,7 +1,8 @@
 // A message of three loads over a link that loses a frame and a reply, at every load kind; and of one load over piles.
+use crate::crossings::below;
 use crate::linksteps::Step::{Join, Make, Outcome};
 use crate::linksteps::{
-    ARRIVED, Answered, DONE, LOST, NOT_DUE, OK, ONE, ONLY_7, STILL, Step, THREE, below, follow_new,
+    ARRIVED, Answered, DONE, LOST, NOT_DUE, OK, ONE, ONLY_7, STILL, Step, THREE, follow_new,
     readings,
 };
 use channels::{Hop, Store, Wire};

@@ -1,6 +1,7 @@
 // What the cases on links share: what is done with a link and what it must answer, and how a table of such cases is followed.
+use crate::crossings::below;
 use channel::Channel;
-use channels::{Rain, Store, Wire};
+use channels::{Store, Wire};
 use link::{Answer, Call, Heard, Link, LinkRefusal, Mark, Word};
 use loads::{Book, EmptyLoad, Load, Reading};
 use std::alloc::Global;
@@ -105,14 +106,6 @@ pub fn follow_new<T: Load + Debug + PartialEq, K: Channel<T> + Drop, L: Channel<
 ) {
     let mut link = Link::new(to_hut, back);
     follow_link(rt, &mut link, book, name, steps);
-}
-
-// A channel below a rain of these marks.
-pub fn below<'m, C: Drop>(rt: &impl Abort, channel: C, marks: &'m [u8]) -> Rain<'m, C> {
-    let Ok(rain) = Rain::new(channel, marks) else {
-        panic!(rt; "these are no marks");
-    };
-    rain
 }
 
 // Follows each case on a wire and a store, each below a rain, and also without rains where there are no marks.

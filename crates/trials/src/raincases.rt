@@ -1,41 +1,45 @@
 // The rain: its marks, their order and their limits.
-use crate::crossings::{follow, opening};
-use channel::{Channel, Event, Full, Poll};
+use crate::crossings::{below, follow, opening};
+use channel::{Event, Full, Poll};
 use channels::{Hop, Rain, Store};
-use loads::{EmptyLoad, Reading, answer_number};
+use loads::{EmptyLoad, Frame, Reading, answer_number};
+
+const SEVEN: Frame<Reading> = Frame {
+    first: true,
+    last: false,
+    toggle: false,
+    load: Reading { value: 7 },
+};
+
+const IN_ORDER: [Event<Reading>; 15] = [
+    Event::Poll(Poll::Empty),
+    Event::Put(SEVEN, Ok(())),
+    Event::Poll(Poll::Lost),
+    Event::Poll(Poll::Empty),
+    Event::Put(SEVEN, Ok(())),
+    Event::Put(SEVEN, Err(Full)),
+    Event::Poll(Poll::Still),
+    Event::Poll(Poll::Arrived(SEVEN)),
+    Event::Put(SEVEN, Ok(())),
+    Event::Poll(Poll::Arrived(SEVEN)),
+    Event::Put(SEVEN, Ok(())),
+    Event::Poll(Poll::Lost),
+    Event::Put(SEVEN, Ok(())),
+    Event::Poll(Poll::Arrived(SEVEN)),
+    Event::Poll(Poll::Empty),
+];
 
 #[test]
 fn marks_are_taken_in_order_and_pass_after_the_last(rt: HostRuntime) {
-    let frame = opening(Reading { value: 7 });
-    let mut rain = Rain::new(Store::new(), &[1, 2, 0, 1]).unwrap();
-    follow(
-        &rt,
-        &mut rain,
-        &[
-            Event::Poll(Poll::Empty),
-            Event::Put(frame, Ok(())),
-            Event::Poll(Poll::Lost),
-            Event::Poll(Poll::Empty),
-            Event::Put(frame, Ok(())),
-            Event::Put(frame, Err(Full)),
-            Event::Poll(Poll::Still),
-            Event::Poll(Poll::Arrived(frame)),
-            Event::Put(frame, Ok(())),
-            Event::Poll(Poll::Arrived(frame)),
-            Event::Put(frame, Ok(())),
-            Event::Poll(Poll::Lost),
-            Event::Put(frame, Ok(())),
-            Event::Poll(Poll::Arrived(frame)),
-            Event::Poll(Poll::Empty),
-        ],
-    );
+    let mut rain = below(&rt, Store::new(), &[1, 2, 0, 1]);
+    follow(&rt, &mut rain, &IN_ORDER);
 }
 
 // The hop below would have moved the frame to far, had it been polled.
 #[test]
 fn a_delay_does_not_poll_below(rt: HostRuntime) {
     let frame = opening(EmptyLoad);
-    let mut rain = Rain::new(Hop::new(Store::new(), Store::new()), &[2]).unwrap();
+    let mut rain = below(&rt, Hop::new(Store::new(), Store::new()), &[2]);
     follow(
         &rt,
         &mut rain,
@@ -50,8 +54,8 @@ fn a_delay_does_not_poll_below(rt: HostRuntime) {
 fn a_frame_that_was_below_before_has_no_mark(rt: HostRuntime) {
     let frame = opening(Reading { value: 7 });
     let mut store = Store::new();
-    assert_eq!(rt; store.put(&frame), Ok(()));
-    let mut rain = Rain::new(store, &[1]).unwrap();
+    follow(&rt, &mut store, &[Event::Put(frame, Ok(()))]);
+    let mut rain = below(&rt, store, &[1]);
     follow(
         &rt,
         &mut rain,
@@ -69,7 +73,7 @@ fn the_sixty_fourth_mark_is_the_last(rt: HostRuntime) {
     let frame = opening(EmptyLoad);
     let mut marks = [0; 64];
     marks[63] = 1;
-    let mut rain = Rain::new(Store::new(), &marks).unwrap();
+    let mut rain = below(&rt, Store::new(), &marks);
     for _ in 0..63 {
         follow(
             &rt,
@@ -89,27 +93,30 @@ fn the_sixty_fourth_mark_is_the_last(rt: HostRuntime) {
     );
 }
 
-// The number of the answer to making a rain with these marks.
-fn number_of_marks(marks: &[u8]) -> u8 {
-    answer_number(&Rain::new(Store::<EmptyLoad>::new(), marks))
-}
+// Marks, and the number that making a rain with them answers.
+const MARKS: [(&[u8], u8); 7] = [
+    (&[], 0),
+    (&[0, 1, 2], 0),
+    (&[3], 21),
+    (&[255, 0], 21),
+    (&[0, 1, 2, 3], 21),
+    (&[2; 64], 0),
+    (&[0; 65], 21),
+];
 
 #[test]
 fn marks_have_their_limits(rt: HostRuntime) {
-    assert_eq!(rt; number_of_marks(&[]), 0);
-    assert_eq!(rt; number_of_marks(&[0, 1, 2]), 0);
-    assert_eq!(rt; number_of_marks(&[3]), 21);
-    assert_eq!(rt; number_of_marks(&[255, 0]), 21);
-    assert_eq!(rt; number_of_marks(&[0, 1, 2, 3]), 21);
-    assert_eq!(rt; number_of_marks(&[2; 64]), 0);
-    assert_eq!(rt; number_of_marks(&[0; 65]), 21);
+    for (marks, number) in MARKS {
+        let answer = Rain::new(Store::<EmptyLoad>::new(), marks);
+        assert_eq!(rt; answer_number(&answer), number, "{marks:?}");
+    }
 }
 
 #[test]
 fn a_refused_channel_comes_back_as_it_was(rt: HostRuntime) {
     let frame = opening(Reading { value: 7 });
     let mut store = Store::new();
-    assert_eq!(rt; store.put(&frame), Ok(()));
+    follow(&rt, &mut store, &[Event::Put(frame, Ok(()))]);
     let refused = Rain::new(store, &[0; 65]).unwrap_err();
     let mut store = refused.below;
     follow(&rt, &mut store, &[Event::Poll(Poll::Arrived(frame))]);

@@ -1,36 +1,46 @@
 // The text of frames and of what became of them.
-use crate::crossings::opening;
 use channel::{Event, Full, Poll};
 use frametext::{AnyFrame, event_line, frame_line, frame_lines, hexadecimal};
 use loads::{EmptyLoad, Frame, Reading};
 use std::test::Fail;
 
+const HEXADECIMAL: [(&[u8], &str); 2] = [
+    (&[], ""),
+    (
+        &[0x00, 0x09, 0x0A, 0x0F, 0x10, 0x9F, 0xA0, 0xFF],
+        "00090A0F109FA0FF",
+    ),
+];
+
 #[test]
 fn octets_in_hexadecimal(rt: HostRuntime) -> Result<(), Fail> {
-    assert_eq!(rt; hexadecimal(rt.alloc(), &[])?.as_str(), "");
-    assert_eq!(rt;
-        hexadecimal(
-            rt.alloc(),
-            &[0x00, 0x09, 0x0A, 0x0F, 0x10, 0x9F, 0xA0, 0xFF],
-        )?
-        .as_str(),
-        "00090A0F109FA0FF"
-    );
+    for (octets, text) in HEXADECIMAL {
+        assert_eq!(rt; hexadecimal(rt.alloc(), octets)?.as_str(), text);
+    }
     Ok(())
 }
 
+// Octets, and the line that says what they spell, or which number turns them down.
+const LINES: [(&[u8], &str); 6] = [
+    (
+        &[0x60],
+        "input 60: first off, last on, toggle on, empty load",
+    ),
+    (
+        &[0xA1, 0xFF, 0xFF, 0xFF, 0xFF],
+        "input A1FFFFFFFF: first on, last off, toggle on, reading 4294967295",
+    ),
+    (&[], "input : refused 14"),
+    (&[0x01], "input 01: refused 14"),
+    (&[0x03], "input 03: refused 15"),
+    (&[0xFF, 0xFF], "input FFFF: refused 15"),
+];
+
 #[test]
 fn lines_say_what_octets_spell(rt: HostRuntime) -> Result<(), Fail> {
-    let line = frame_line(rt.alloc(), "input", &[0x60])?;
-    assert_eq!(rt;
-        line.as_str(),
-        "input 60: first off, last on, toggle on, empty load"
-    );
-    let line = frame_line(rt.alloc(), "input", &[0xA1, 0xFF, 0xFF, 0xFF, 0xFF])?;
-    assert_eq!(rt;
-        line.as_str(),
-        "input A1FFFFFFFF: first on, last off, toggle on, reading 4294967295"
-    );
+    for (octets, line) in LINES {
+        assert_eq!(rt; frame_line(rt.alloc(), "input", octets)?.as_str(), line);
+    }
     Ok(())
 }
 
@@ -41,27 +51,6 @@ fn a_frame_has_its_text(rt: HostRuntime) -> Result<(), Fail> {
     assert_eq!(rt;
         text.as_str(),
         "first on, last on, toggle off, reading 1234"
-    );
-    Ok(())
-}
-
-#[test]
-fn lines_say_which_number_turns_octets_down(rt: HostRuntime) -> Result<(), Fail> {
-    assert_eq!(rt;
-        frame_line(rt.alloc(), "input", &[])?.as_str(),
-        "input : refused 14"
-    );
-    assert_eq!(rt;
-        frame_line(rt.alloc(), "input", &[0x01])?.as_str(),
-        "input 01: refused 14"
-    );
-    assert_eq!(rt;
-        frame_line(rt.alloc(), "input", &[0x03])?.as_str(),
-        "input 03: refused 15"
-    );
-    assert_eq!(rt;
-        frame_line(rt.alloc(), "input", &[0xFF; 2])?.as_str(),
-        "input FFFF: refused 15"
     );
     Ok(())
 }
@@ -82,21 +71,28 @@ fn a_change_past_the_end_changes_nothing(rt: HostRuntime) -> Result<(), Fail> {
     Ok(())
 }
 
+const SEVEN: Frame<Reading> = Frame {
+    first: true,
+    last: false,
+    toggle: false,
+    load: Reading { value: 7 },
+};
+
+const EVENTS: [(Event<Reading>, &str); 6] = [
+    (Event::Put(SEVEN, Ok(())), "put 8100000007: 0"),
+    (Event::Put(SEVEN, Err(Full)), "put 8100000007: 11"),
+    (Event::Poll(Poll::Empty), "poll: EMPTY"),
+    (Event::Poll(Poll::Still), "poll: STILL"),
+    (
+        Event::Poll(Poll::Arrived(SEVEN)),
+        "poll: ARRIVED 8100000007",
+    ),
+    (Event::Poll(Poll::Lost), "poll: LOST"),
+];
+
 #[test]
 fn events_have_their_lines(rt: HostRuntime) -> Result<(), Fail> {
-    let frame = opening(Reading { value: 7 });
-    let lines = [
-        (Event::Put(frame, Ok(())), "put 8100000007: 0"),
-        (Event::Put(frame, Err(Full)), "put 8100000007: 11"),
-        (Event::Poll(Poll::Empty), "poll: EMPTY"),
-        (Event::Poll(Poll::Still), "poll: STILL"),
-        (
-            Event::Poll(Poll::Arrived(frame)),
-            "poll: ARRIVED 8100000007",
-        ),
-        (Event::Poll(Poll::Lost), "poll: LOST"),
-    ];
-    for (event, line) in lines {
+    for (event, line) in EVENTS {
         assert_eq!(rt; event_line(rt.alloc(), &event)?.as_str(), line);
     }
     Ok(())
