@@ -11,8 +11,8 @@ fn writes<T: Load>(rt: &impl Abort, frame: &Frame<T>, room: usize, number: u8, a
     let Some(buffer) = octets.get_mut(..room) else {
         panic!(rt; "there are no more octets");
     };
-    assert_eq!(rt; number_of(&frame.write(buffer)), number, "{room}");
-    assert_eq!(rt; *buffer, *after, "{room}");
+    let answer = number_of(&frame.write(buffer));
+    assert_eq!(rt; (answer, &*buffer), (number, after), "in {room}");
 }
 
 // Octets, and the number that reading a frame from them answers.

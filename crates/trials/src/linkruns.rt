@@ -172,19 +172,16 @@ const CASES: [Case; 3] = [
 
 type Plain = Link<Reading, Wire<Reading>, Store<EmptyLoad>>;
 
-// Makes a run, with a log of its own.
+// Makes a run, and gives its answer and the log after it.
 fn make_run(
-    rt: &impl Abort,
     heap: Global,
     link: &mut Plain,
     book: &Book<Reading>,
-    name: &str,
     run: &Run,
-) -> Result<(), Fail> {
+) -> Result<(Result<(), LinkRefusal>, Vec<Event<Reading>>), Fail> {
     let mut log = run.before.to_vec(heap)?;
-    assert_eq!(rt; link.run(book, run.calls, &mut log), run.answer, "{name}");
-    assert_eq!(rt; log.as_slice(), run.after, "{name}");
-    Ok(())
+    let answer = link.run(book, run.calls, &mut log);
+    Ok((answer, log))
 }
 
 // Makes the runs of a case in order.
@@ -194,7 +191,9 @@ fn make_runs(rt: &impl Abort, heap: Global, case: &Case) -> Result<(), Fail> {
     let name = case.name;
     follow_link(rt, &mut link, &book, name, case.start);
     for run in case.runs {
-        make_run(rt, heap, &mut link, &book, name, run)?;
+        let (answer, log) = make_run(heap, &mut link, &book, run)?;
+        assert_eq!(rt; answer, run.answer, "{name}");
+        assert_eq!(rt; log.as_slice(), run.after, "{name}");
         follow_link(rt, &mut link, &book, name, run.then);
     }
     Ok(())

@@ -41,7 +41,9 @@ const HIGHEST: Answered<Reading> = Ok(Answer::Told(
 ));
 
 // A call, its answer, and their line.
-const LINES: [(Call, Answered<Reading>, &str); 14] = [
+type Line<T> = (Call, Answered<T>, &'static str);
+
+const LINES: [Line<Reading>; 14] = [
     (ONE, DONE, "Q 0"),
     (Call::Meet, DONE, "M 0"),
     (Call::Carry, STILL, "C 0 STILL"),
@@ -58,25 +60,21 @@ const LINES: [(Call, Answered<Reading>, &str); 14] = [
     (Call::Break, Err(LinkRefusal::NotJoined), "N 4"),
 ];
 
-// A call with its answer has this line.
-fn has_line<T: Load>(
-    rt: &impl Abort,
-    heap: Global,
-    call: Call,
-    answer: Answered<T>,
-    line: &str,
-) -> Result<(), Fail> {
-    let event = Event { call, answer };
-    assert_eq!(rt; call_line(heap, &event)?.as_str(), line);
+// Calls with their answers have these lines.
+fn have_lines<T: Load>(rt: &impl Abort, heap: Global, lines: &[Line<T>]) -> Result<(), Fail> {
+    for (call, answer, line) in lines {
+        let event = Event {
+            call: *call,
+            answer: *answer,
+        };
+        assert_eq!(rt; call_line(heap, &event)?.as_str(), *line);
+    }
     Ok(())
 }
 
 #[test]
 fn a_line_shows_what_a_call_answers(rt: HostRuntime) -> Result<(), Fail> {
-    for (call, answer, line) in LINES {
-        has_line(&rt, rt.alloc(), call, answer, line)?;
-    }
-    Ok(())
+    have_lines(&rt, rt.alloc(), &LINES)
 }
 
 #[test]
@@ -84,9 +82,9 @@ fn a_line_shows_the_octets_of_any_load(rt: HostRuntime) -> Result<(), Fail> {
     let piece = Piece::new(20, 1_048_575, 349_525, 3, 0x0123_4567_89AB_CDEF)?;
     let told = Ok(Answer::Told(Mark::First, piece));
     let line = "T 0 FIRST 14000FFFFF0005555500030123456789ABCDEF";
-    has_line(&rt, rt.alloc(), Call::Tell, told, line)?;
+    have_lines(&rt, rt.alloc(), &[(Call::Tell, told, line)])?;
     let told = Ok(Answer::Told(Mark::Ok, EmptyLoad));
-    has_line(&rt, rt.alloc(), Call::Tell, told, "T 0 OK ")
+    have_lines(&rt, rt.alloc(), &[(Call::Tell, told, "T 0 OK ")])
 }
 
 #[test]

@@ -92,8 +92,8 @@ fn writes<T: Load>(rt: &impl Abort, load: &T, room: usize, number: u8, after: &[
     let Some(buffer) = octets.get_mut(..room) else {
         panic!(rt; "there are no more octets");
     };
-    assert_eq!(rt; number_of(&load.write(buffer)), number, "{room}");
-    assert_eq!(rt; *buffer, *after, "{room}");
+    let answer = number_of(&load.write(buffer));
+    assert_eq!(rt; (answer, &*buffer), (number, after), "in {room}");
 }
 
 // Reading a load of this kind answers with these numbers.

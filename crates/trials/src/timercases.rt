@@ -30,11 +30,11 @@ const TIMERS: [(u8, u16, u16, u16, Result<(), TimerRefusal>); 12] = [
 
 #[test]
 fn timers_have_their_limits(rt: HostRuntime) {
-    for (repeats, bound, t1, t2, answer) in TIMERS {
+    for (i, (repeats, bound, t1, t2, answer)) in TIMERS.iter().enumerate() {
         assert_eq!(rt;
-            timers_fit(repeats, bound, t1, t2),
-            answer,
-            "{repeats} repeats, {bound}, {t1}, {t2}"
+            timers_fit(*repeats, *bound, *t1, *t2),
+            *answer,
+            "timers {i}"
         );
     }
 }
