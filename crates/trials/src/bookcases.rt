@@ -1,5 +1,6 @@
 // Books at their limits.
-use loads::{Book, EmptyLoad, Load, Piece, Reading};
+use crate::linksteps::book_of;
+use loads::{EmptyLoad, Load, Piece, Reading};
 use std::alloc::Global;
 use std::fmt::Debug;
 use std::process::Abort;
@@ -29,7 +30,7 @@ fn has_loads<T: Load + Debug + PartialEq>(
     length: usize,
     loads: &[(usize, Option<T>)],
 ) -> Result<(), Fail> {
-    let book = Book::<T>::read(heap, count, octets)?;
+    let book = book_of::<T>(heap, count, octets)?;
     assert_eq!(rt; book.len(), length, "of {count} in {octets:?}");
     for (place, load) in loads {
         assert_eq!(rt; book.load(*place), *load, "at {place}");

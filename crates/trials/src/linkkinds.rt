@@ -2,8 +2,8 @@
 use crate::crossings::below;
 use crate::linksteps::Step::{Join, Make, Outcome};
 use crate::linksteps::{
-    ARRIVED, Answered, DONE, LOST, NOT_DUE, OK, ONE, ONLY_7, STILL, Step, THREE, follow_new,
-    readings,
+    ARRIVED, Answered, DONE, LOST, NOT_DUE, OK, ONE, ONLY_7, STILL, Step, THREE, book_of,
+    follow_new, readings,
 };
 use channels::{Hop, Store, Wire};
 use link::{Answer, Call, Heard, LinkRefusal, Mark, Word};
@@ -65,7 +65,7 @@ fn send_three<T: Load + Debug + PartialEq>(rt: &impl Abort, book: &Book<T>, step
 #[test]
 fn three_readings_are_told(rt: HostRuntime) -> Result<(), Fail> {
     let octets = [0, 0, 0, 7, 0, 0, 0, 7, 255, 255, 255, 255];
-    let book = Book::<Reading>::read(rt.alloc(), 3, &octets)?;
+    let book = book_of::<Reading>(rt.alloc(), 3, &octets)?;
     let seven = Reading { value: 7 };
     let highest = Reading {
         value: 4_294_967_295,
@@ -76,7 +76,7 @@ fn three_readings_are_told(rt: HostRuntime) -> Result<(), Fail> {
 
 #[test]
 fn three_pieces_are_told(rt: HostRuntime) -> Result<(), Fail> {
-    let book = Book::<Piece>::read(rt.alloc(), 3, &THREE_PIECES)?;
+    let book = book_of::<Piece>(rt.alloc(), 3, &THREE_PIECES)?;
     let body = 0x0102_0304_0506_0708;
     let first = Piece::new(20, 1_048_575, 349_525, 0, body)?;
     let second = Piece::new(20, 1_048_575, 349_525, 1, body)?;
@@ -87,7 +87,7 @@ fn three_pieces_are_told(rt: HostRuntime) -> Result<(), Fail> {
 
 #[test]
 fn three_empty_loads_are_told(rt: HostRuntime) -> Result<(), Fail> {
-    let book = Book::<EmptyLoad>::read(rt.alloc(), 3, &[])?;
+    let book = book_of::<EmptyLoad>(rt.alloc(), 3, &[])?;
     send_three(&rt, &book, &three_told([EmptyLoad; 3]));
     Ok(())
 }

@@ -2,13 +2,13 @@
 use crate::crossings::{follow, opening};
 use crate::linksteps::Step::{Join, Make, Outcome};
 use crate::linksteps::{
-    ARRIVED, Answered, Case, DONE, NOT_DUE, THREE, follow_cases, follow_link, follow_new, readings,
+    ARRIVED, Answered, Case, DONE, NOT_DUE, THREE, book_of, follow_cases, follow_link, follow_new,
+    readings,
 };
 use channel::{Channel, Event};
-use channels::Store;
+use channels::{Store, Wire};
 use link::{Answer, Call, Hut, Link, LinkRefusal, Sender};
-use loads::{Book, EmptyLoad, Reading, Refusal};
-use std::alloc::Global;
+use loads::{EmptyLoad, Reading, Refusal};
 use std::test::Fail;
 
 const NOT_JOINED: Answered<Reading> = Err(LinkRefusal::NotJoined);
@@ -165,15 +165,9 @@ const REQUESTS: [(u16, u16, Answered<EmptyLoad>); 8] = [
     (0, 4_096, TAKEN),
 ];
 
-// Such a book.
-fn empty_loads(heap: Global) -> Result<Book<EmptyLoad>, Fail> {
-    let book = Book::<EmptyLoad>::read(heap, 4_096, &[])?;
-    Ok(book)
-}
-
 #[test]
 fn requests_are_held_to_the_book(rt: HostRuntime) -> Result<(), Fail> {
-    let book = empty_loads(rt.alloc())?;
+    let book = book_of::<EmptyLoad>(rt.alloc(), 4_096, &[])?;
     for (start, count, answer) in REQUESTS {
         let steps = [
             Join(0, Ok(())),
@@ -194,7 +188,7 @@ fn requests_are_held_to_the_book(rt: HostRuntime) -> Result<(), Fail> {
 fn a_send_needs_the_load_in_the_book_that_is_given(rt: HostRuntime) -> Result<(), Fail> {
     let book = readings(rt.alloc(), 3)?;
     let shorter = readings(rt.alloc(), 2)?;
-    let mut link = Link::new(Store::new(), Store::new());
+    let mut link = Link::new(Wire::new(), Store::new());
     let third = Call::Request { start: 2, count: 1 };
     follow_link(
         &rt,

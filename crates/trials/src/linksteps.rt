@@ -61,10 +61,17 @@ pub struct Case {
     pub steps: &'static [Step<Reading>],
 }
 
+// The book of octets.
+pub fn book_of<T: Load>(heap: Global, count: usize, octets: &[u8]) -> Result<Book<T>, Fail> {
+    let book = Book::<T>::read(heap, count, octets)?;
+    Ok(book)
+}
+
+const THREE_READINGS: [u8; 12] = [0, 0, 0, 7, 0, 0, 0, 8, 0, 0, 0, 9];
+
 // A book of so many of the readings 7, 8 and 9.
 pub fn readings(heap: Global, count: usize) -> Result<Book<Reading>, Fail> {
-    let book = Book::<Reading>::read(heap, count, &[0, 0, 0, 7, 0, 0, 0, 8, 0, 0, 0, 9])?;
-    Ok(book)
+    book_of(heap, count, &THREE_READINGS)
 }
 
 // Does a step, and gives it with what the link answers.
