@@ -2,12 +2,16 @@
 
 #![tactic(auto)]
 
+ghost use Rattle.std.specs.Prelude.{◌<◌, IfOk};
+
 use sheetrun::sheet_lines;
 use std::alloc::Global;
 use std::io::Read;
 
 // The value of a digit in hexadecimal.
-fn value_of(digit: u8) -> anyhow::Result<u8> {
+fn value_of(digit: u8) -> anyhow::Result<u8>
+    ensures below { IfOk result (λ value. value < 16) }
+{
     match digit {
         b'0'..=b'9' => Ok(digit - b'0'),
         b'A'..=b'F' => Ok(digit - b'A' + 10),
