@@ -2,8 +2,9 @@
 use crate::plans::{NOTHING, PIECES, Plan, pieces_of, readings_of};
 use channels::Mark;
 use link::Call;
-use loads::{Piece, Reading};
+use loads::{Load, Piece, Reading};
 use sheet::{Part, Sheet, Way};
+use std::alloc::{AllocError, Global};
 use std::fmt::Debug;
 use std::process::Abort;
 use std::test::Fail;
@@ -72,39 +73,65 @@ fn a_sheet_of_readings_has_its_parts(rt: HostRuntime) -> Result<(), Fail> {
     Ok(())
 }
 
+// What a sheet gives a run, without its loads, must be this.
+fn assert_run<T: Load>(
+    rt: &impl Abort,
+    sheet: &Sheet<'_, T>,
+    repeats: u8,
+    loads: usize,
+    marks: (&[u8], &[u8]),
+    calls: &[Call],
+) {
+    let (to_hut, back) = marks;
+    assert_eq!(rt; sheet.repeats(), repeats);
+    assert_eq!(rt; sheet.book().len(), loads);
+    assert_eq!(rt; sheet.to_hut(), to_hut);
+    assert_eq!(rt; sheet.back(), back);
+    assert_eq!(rt; sheet.calls(), calls);
+}
+
+// A place of a sheet's book must have this load.
+fn assert_load<T: Load + Debug + PartialEq>(
+    rt: &impl Abort,
+    sheet: &Sheet<'_, T>,
+    place: usize,
+    load: Option<T>,
+) {
+    assert_eq!(rt; sheet.book().load(place), load, "at {place}");
+}
+
 #[test]
 fn a_sheet_of_readings_gives_a_run(rt: HostRuntime) -> Result<(), Fail> {
     let octets = READING_SHEET.octets(rt.alloc())?;
     let sheet = readings_of(rt.alloc(), &octets).ok_or("no readings")?;
-    assert_eq!(rt; sheet.repeats(), 3);
-    assert_eq!(rt; sheet.book().len(), 2);
-    assert_eq!(rt; sheet.book().load(0), Some(Reading { value: 7 }));
-    assert_eq!(rt; sheet.book().load(1), Some(Reading { value: 65_538 }));
-    assert_eq!(rt; sheet.book().load(2), None);
-    assert_eq!(rt; sheet.to_hut(), [0, 2].as_slice());
-    assert_eq!(rt; sheet.back(), [1].as_slice());
     let request = Call::Request {
         start: 258,
         count: 772,
     };
-    assert_eq!(rt; sheet.calls(), [request, Call::Meet].as_slice());
+    assert_run(&rt, &sheet, 3, 2, (&[0, 2], &[1]), &[request, Call::Meet]);
+    assert_load(&rt, &sheet, 0, Some(Reading { value: 7 }));
+    assert_load(&rt, &sheet, 1, Some(Reading { value: 65_538 }));
+    assert_load(&rt, &sheet, 2, None);
     Ok(())
+}
+
+// The places of a sheet's parts, and their octets one after another.
+fn laid_out<T>(heap: Global, sheet: &Sheet<'_, T>) -> Result<(Vec<usize>, Vec<u8>), AllocError> {
+    let mut places = Vec::new(heap);
+    let mut covered = Vec::new(heap);
+    for part in sheet.parts() {
+        places.push(part.place())?;
+        covered.extend_from_slice(part.octets())?;
+    }
+    Ok((places, covered))
 }
 
 #[test]
 fn parts_follow_one_another(rt: HostRuntime) -> Result<(), Fail> {
     let octets = READING_SHEET.octets(rt.alloc())?;
     let sheet = readings_of(rt.alloc(), &octets).ok_or("no readings")?;
-    let places: Vec<usize> = sheet
-        .parts()
-        .iter()
-        .map(|part| part.place())
-        .collect(rt.alloc())?;
+    let (places, covered) = laid_out(rt.alloc(), &sheet)?;
     assert_eq!(rt; places.as_slice(), [0, 4, 8, 9, 10, 11, 16].as_slice());
-    let mut covered = Vec::new(rt.alloc());
-    for part in sheet.parts() {
-        covered.extend_from_slice(part.octets())?;
-    }
     assert_eq!(rt;
         covered.as_slice(),
         [0, 0, 0, 7, 0, 1, 0, 2, 0, 2, 1, b'Q', 1, 2, 3, 4, b'M'].as_slice()
@@ -129,7 +156,7 @@ const PIECE_SHEET: Plan<'static> = Plan {
 };
 
 // What a part means, without its octets: the borrow checker takes no array of parts whose loads have a ghost field.
-#[derive(Clone, Copy, Debug, PartialEq, Eq)]
+#[derive(Clone, Copy, PartialEq, Eq)]
 enum Meaning<T> {
     Load(T),
     Mark(Way, Mark),
@@ -144,17 +171,25 @@ fn meaning_of<T: Copy>(part: &Part<'_, T>) -> Meaning<T> {
     }
 }
 
+// Whether a part has this place, these octets and this meaning.
+fn is_part<T: Copy + PartialEq>(
+    part: &Part<'_, T>,
+    place: usize,
+    octets: &[u8],
+    meaning: &Meaning<T>,
+) -> bool {
+    part.place() == place && part.octets() == octets && meaning_of(part) == *meaning
+}
+
 // The sheet must have these parts: place, octets and meaning.
-fn assert_parts<T: Copy + Debug + PartialEq>(
+fn assert_parts<T: Copy + PartialEq>(
     rt: &impl Abort,
     sheet: &Sheet<'_, T>,
     expected: &[(usize, &[u8], Meaning<T>)],
 ) {
     assert_eq!(rt; sheet.parts().len(), expected.len());
     for (part, (place, octets, meaning)) in sheet.parts().iter().zip(expected) {
-        assert_eq!(rt; part.place(), *place);
-        assert_eq!(rt; part.octets(), *octets);
-        assert_eq!(rt; meaning_of(part), *meaning);
+        assert!(rt; is_part(part, *place, octets, meaning), "at {place}");
     }
 }
 
@@ -181,12 +216,8 @@ fn a_sheet_of_pieces_gives_a_run(rt: HostRuntime) -> Result<(), Fail> {
     let octets = PIECE_SHEET.octets(rt.alloc())?;
     let sheet = pieces_of(rt.alloc(), &octets).ok_or("no pieces")?;
     let load = Piece::new(20, 1_048_575, 349_525, 3, 0x0123_4567_89AB_CDEF)?;
-    assert_eq!(rt; sheet.repeats(), 10);
-    assert_eq!(rt; sheet.book().len(), 1);
-    assert_eq!(rt; sheet.book().load(0), Some(load));
-    assert_eq!(rt; sheet.to_hut(), [].as_slice());
-    assert_eq!(rt; sheet.back(), [2].as_slice());
-    assert_eq!(rt; sheet.calls(), [Call::Reply].as_slice());
+    assert_run(&rt, &sheet, 10, 1, (&[], &[2]), &[Call::Reply]);
+    assert_load(&rt, &sheet, 0, Some(load));
     Ok(())
 }
 
@@ -223,11 +254,7 @@ fn each_letter_is_its_call(rt: HostRuntime) -> Result<(), Fail> {
 fn an_empty_sheet_has_no_parts(rt: HostRuntime) -> Result<(), Fail> {
     let octets = NOTHING.octets(rt.alloc())?;
     let sheet = readings_of(rt.alloc(), &octets).ok_or("no readings")?;
+    assert_run(&rt, &sheet, 0, 0, (&[], &[]), &[]);
     assert_eq!(rt; sheet.parts().len(), 0);
-    assert_eq!(rt; sheet.book().len(), 0);
-    assert_eq!(rt; sheet.to_hut().len(), 0);
-    assert_eq!(rt; sheet.back().len(), 0);
-    assert_eq!(rt; sheet.calls().len(), 0);
-    assert_eq!(rt; sheet.repeats(), 0);
     Ok(())
 }

@@ -4,23 +4,28 @@ use sheet::{ReadError, SheetFault, SheetRefusal};
 use std::alloc::AllocError;
 use std::test::Fail;
 
-const NUMBERS: [(SheetRefusal, u8); 6] = [
-    (SheetRefusal::WrongSize, 17),
-    (SheetRefusal::BadSetting, 18),
-    (SheetRefusal::BadDistances, 19),
-    (SheetRefusal::NoLoad, 20),
-    (SheetRefusal::BadMark, 21),
-    (SheetRefusal::BadCall, 22),
+// refusal, place, number and text
+const FAULTS: [(SheetRefusal, usize, u8, &str); 8] = [
+    (SheetRefusal::WrongSize, 6, 17, "sheet 17 at 6"),
+    (SheetRefusal::BadSetting, 6, 18, "sheet 18 at 6"),
+    (SheetRefusal::BadDistances, 6, 19, "sheet 19 at 6"),
+    (SheetRefusal::NoLoad, 6, 20, "sheet 20 at 6"),
+    (SheetRefusal::BadMark, 6, 21, "sheet 21 at 6"),
+    (SheetRefusal::BadCall, 6, 22, "sheet 22 at 6"),
+    (SheetRefusal::BadMark, 16_383, 21, "sheet 21 at 16383"),
+    (SheetRefusal::WrongSize, 0, 17, "sheet 17 at 0"),
 ];
 
 #[test]
 fn refusals_have_their_numbers(rt: HostRuntime) -> Result<(), Fail> {
-    for (refusal, number) in NUMBERS {
-        assert_eq!(rt; refusal.number(), number);
-        let fault = SheetFault { refusal, place: 6 };
+    for (refusal, place, number, line) in &FAULTS {
+        assert_eq!(rt; refusal.number(), *number, "{line}");
+        let fault = SheetFault {
+            refusal: *refusal,
+            place: *place,
+        };
         let text = format!(in rt.alloc(); "{fault}")?;
-        let line = format!(in rt.alloc(); "sheet {number} at 6")?;
-        assert_eq!(rt; text.as_str(), line.as_str());
+        assert_eq!(rt; text.as_str(), *line);
     }
     Ok(())
 }
@@ -31,19 +36,22 @@ fn errors_have_their_texts(rt: HostRuntime) -> Result<(), Fail> {
         refusal: SheetRefusal::BadMark,
         place: 16_383,
     };
-    let refused = ReadError::from(fault);
-    assert_eq!(rt; refused, ReadError::Refused(fault));
-    let text = format!(in rt.alloc(); "{refused}")?;
-    assert_eq!(rt; text.as_str(), "sheet 21 at 16383");
-    let fault = SheetFault {
-        refusal: SheetRefusal::WrongSize,
-        place: 0,
-    };
-    let text = format!(in rt.alloc(); "{fault}")?;
-    assert_eq!(rt; text.as_str(), "sheet 17 at 0");
-    let no_memory = ReadError::from(AllocError);
-    assert_eq!(rt; no_memory, ReadError::NoMemory);
-    let text = format!(in rt.alloc(); "{no_memory}")?;
-    assert_eq!(rt; text.as_str(), "no memory");
+    let errors = [
+        (
+            ReadError::from(fault),
+            ReadError::Refused(fault),
+            "sheet 21 at 16383",
+        ),
+        (
+            ReadError::from(AllocError),
+            ReadError::NoMemory,
+            "no memory",
+        ),
+    ];
+    for (error, same, line) in &errors {
+        assert_eq!(rt; *error, *same, "{line}");
+        let text = format!(in rt.alloc(); "{error}")?;
+        assert_eq!(rt; text.as_str(), *line);
+    }
     Ok(())
 }
