@@ -24,9 +24,6 @@ module _ {T : Type 0} (kind : Ghosts T) (section : Section) where
   abbrev pub Passing : ℕ → ℕ → List ℕ → Result (List (PartState T)) SheetFault → Type 0
   Passing room place octets said = (now : List (PartState T)) × (before now (records_read kind section room place octets) ≡ before [] said)
 
-  pub passing_begins : (room place : ℕ) (octets : List ℕ) → Passing room place octets (records_read kind section room place octets)
-  passing_begins room place octets = ([], refl)
-
   pub passing_on : (room place : ℕ) (octets : List ℕ) (part : PartState T) (behind : List ℕ) (said : Result (List (PartState T)) SheetFault)
       → Passing room place octets said → 0 < length octets → room ≢ 0 → record_of kind section place octets ≡ Ok (part, behind)
       → Passing (room - 1) (place + length part.octets) behind said
