@@ -1,7 +1,7 @@
 pub mod Laws
 pub mod Moves
 pub mod Phases
-pub mod RanLaws
 pub mod RestLaws
+pub mod RunLaws
 pub mod Tallies
 pub mod Watches

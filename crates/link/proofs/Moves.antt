@@ -1,7 +1,7 @@
 -- Every call takes a link from one phase to the next, as the watch over its history sees it.
-use Rattle.std.proofs.Common.{◌≡◌, ℕ, zero, suc, ◌+◌, ◌%◌, ◌^◌, ◌<◌, ◌≤◌, Bool, true, false, not, ◌||◌, List, [], ◌∷◌, drop, take, length, Ok, Err, Some, Option, refl, ap, sym, ◌∙◌, subst, length-take, arith, rules, tests}
-use Rattle.std.specs.Prelude.{◌==◌, nat_le, nat_lt, cond}
-use Rattle.std.specs.List.{slice_get}
+use Rattle.std.proofs.Common.{◌≡◌, ℕ, zero, suc, ◌+◌, ◌%◌, ◌^◌, ◌<◌, ◌≤◌, Bool, true, false, not, ◌||◌, List, [], ◌∷◌, drop, take, length, Ok, Err, Some, Option, refl, ap, sym, ◌∙◌, subst, add-one, length-take, arith, rules, tests}
+use Rattle.std.specs.Prelude.{◌==◌, nat_le, nat_lt, if◌then◌else◌, None}
+use Rattle.std.specs.List.{slice_get, range_with_len}
 use Rattle.loads.specs.declared.frames.Frame.{Frame}
 use Rattle.link.specs.declared.places.SenderPlace.TheVariants.{ToSend, ToConfirm}
 use Rattle.link.specs.declared.places.HutPlace.TheVariants.{AwaitsFrame}
@@ -9,20 +9,23 @@ use Rattle.link.specs.declared.words.Word.{Word}
 use Rattle.link.specs.declared.calls.Call.{Call}
 use Rattle.link.specs.declared.calls.Call.TheVariants as call
 use Rattle.link.specs.declared.events.Answer.{Answer}
-use Rattle.link.specs.declared.events.Answer.TheVariants.{Done, Polled, Told, Confirmed}
+use Rattle.link.specs.declared.events.Answer.TheVariants.{Done}
 use Rattle.link.specs.declared.refusals.LinkRefusal.TheVariants.{BadCount, BeyondBook, StillOpen, NoneConfirmed}
 use Rattle.link.specs.declared.words.Heard.{Heard}
-use Rattle.link.specs.declared.words.Heard.TheVariants.{Still, Arrived, Lost}
+use Rattle.link.specs.declared.words.Heard.TheVariants.{Arrived, Lost}
 use Rattle.link.specs.declared.events.Event.{Event}
-use Rattle.link.specs.Histories.{choice, Step, Ran, Reached}
-use Rattle.link.specs.Rules.{Answered, besides, by_sender, request, send, carry, tell, reply, return, retry, abandon, confirm, part, break, meet, shown, made, outcome}
-use Rattle.link.specs.Senders.{places, more}
+use Rattle.link.specs.Changes.{◌>>=◌}
+use Rattle.link.specs.Effects.{Effect, alone}
+use Rattle.link.specs.Calls.{showing, made, outcome}
+use Rattle.link.specs.Histories.{choice, effect_of, EventLeads, EventsLead, HistoryLeads}
+use Rattle.link.specs.Laws.{IsLawful, outcome_of}
+use Rattle.link.specs.Messages.{messages}
+use Rattle.link.specs.Senders.{more}
 use Rattle.link.specs.States.{SenderState, LinkState, started}
-use Rattle.link.specs.Truths.{Truthful, outcome_of}
-use Rattle.link.specs.Turns.{Turn, turn, turns, asks, tells, replied, loses, gives_up, ends, other}
-use Rattle.link.proofs.Watches.{Watch, fresh, advance, Right, Rightly, marked_length, rightly_truthful}
-use Rattle.link.proofs.Tallies.{tally, tally_right}
-use Rattle.link.proofs.Phases.{link_at, sender_at, hut_at, watch, left_of, Rest, nothing, next, Sync, loose, level_on, level_off, ahead_on, ahead_off, Timed, untimed, timed, Tried, unsent, tried, Message, closed, opened, Phase, idle, ready, going, hearing, telling, again, coming, missing, over, failed, apart, parting, breaking}
+use Rattle.link.specs.Turns.{Turn, turn, turns, asks, tells, ends}
+use Rattle.link.proofs.Watches.{Watch, fresh, advance, Right, Rightly, positioned_length, rightly_truthful}
+use Rattle.link.proofs.Tallies.{tally, tally_right, last_is}
+use Rattle.link.proofs.Phases.{link_at, sender_at, hut_at, watch, left_of, Rest, none, next, Sync, loose, level_on, level_off, ahead_on, ahead_off, Timed, untimed, timed, Tried, unsent, tried, Message, closed, opened, Phase, idle, ready, going, hearing, telling, again, coming, missing, over, failed, apart, parting, breaking}
 
 -- what was sent once was tried
 sent_once : (tries : ℕ) → (suc tries == 0) ≡ false
@@ -38,18 +41,17 @@ load_at (load ∷ loads) (suc place) within = load_at loads place (omega (within
 -- what becomes of the count of loads told, and of the answer to the question for the outcome
 abbrev pub Kept : {T : Type 0} → Turn T → LinkState T → LinkState T → Type 0
 Kept (asks start count) before after = (after.told ≡ 0) × (outcome after ≡ Err StillOpen)
-Kept (tells mark load) before after = (after.told ≡ more before.told) × (outcome after ≡ outcome before)
-Kept replied before after = (after.told ≡ before.told) × (outcome after ≡ outcome before)
-Kept loses before after = (after.told ≡ before.told) × (outcome after ≡ outcome before)
-Kept gives_up before after = (after.told ≡ before.told) × (outcome after ≡ outcome before)
+Kept (tells position load) before after = (after.told ≡ more before.told) × (outcome after ≡ outcome before)
 Kept (ends word) before after = (after.told ≡ before.told) × (outcome after ≡ Ok (word, before.told))
-Kept other before after = (after.told ≡ before.told) × (outcome after ≡ outcome before)
+Kept turn before after = (after.told ≡ before.told) × (outcome after ≡ outcome before)
 
 module _ {T : Type 0} (book : List T) (repeats : ℕ) (small : repeats ≤ 10) where
   -- an answered call is as it should be, and leads to a phase
-  abbrev Next : LinkState T → Watch T → Call → Answered T (Answer T) → Type 0
-  Next before w call (answer, after) =
-      Right repeats w (turn call answer) × Phase book repeats after (advance book w (turn call answer)) × Kept (turn call answer) before after
+  abbrev Next : LinkState T → Watch T → Call → Effect T (Answer T) → Type 0
+  Next before w call effect =
+      Right repeats w (turn call effect.answer)
+      × Phase book repeats effect.after (advance book w (turn call effect.answer))
+      × Kept (turn call effect.answer) before effect.after
 
   -- tries are few, and so do not wrap
   once_more : {tries loss : ℕ} → tries ≡ loss → loss ≤ repeats → (tries + 1) % 2 ^ 32 ≡ suc loss
@@ -81,17 +83,17 @@ module _ {T : Type 0} (book : List T) (repeats : ℕ) (small : repeats ≤ 10) w
       (within : Bool) → nat_le tries repeats ≡ within
       → slice_get book place ≡ Some load → Rest book places loads → Sync strict expected toggle ahead → Timed strict timer
       → Tried ahead tries → tries ≡ loss → loss ≤ suc repeats
-      → Phase book repeats (link_at book repeats (sender_at (cond within ToSend ToConfirm) true first false false toggle (place ∷ places) tries) (hut_at AwaitsFrame fresh strict timer false expected held) told word [] [])
+      → Phase book repeats (link_at book repeats (sender_at (if within then ToSend else ToConfirm) true first false false toggle (place ∷ places) tries) (hut_at AwaitsFrame fresh strict timer false expected held) told word [] [])
       (watch (left_of ahead first (load ∷ loads)) (suc (length loads)) loss false)
   retry_to true within load rest sync on ahead tries few = ready load rest sync on ahead tries (omega (tries, within, tests, arith))
   retry_to false within load rest sync on ahead tries few = failed load rest sync on ahead (search (rules, tests))
 
   -- a request takes loads of the book
-  chosen : (start count : ℕ) → start + count ≤ length book → Rest book (places start count) (take count (drop start book))
-  chosen start zero fits = nothing
+  chosen : (start count : ℕ) → start + count ≤ length book → Rest book (range_with_len start count) (take count (drop start book))
+  chosen start zero fits = none
   chosen start (suc count) fits =
       let found = load_at book start (omega (fits, arith)) in
-      rw (found.2) (next found.1 (chosen (suc start) count (omega (fits, arith))))
+      rw (found.2, add-one) (next found.1 (chosen (suc start) count (omega (fits, arith))))
 
   opening : {place : ℕ} {places : List ℕ} {loads : List T} → Rest book (place ∷ places) loads → Message book true (place ∷ places) (fresh loads)
   opening (next load rest) = opened load rest
@@ -100,250 +102,75 @@ module _ {T : Type 0} (book : List T) (repeats : ℕ) (small : repeats ≤ 10) w
   asked : (link : LinkState T) (after : SenderState) (w : Watch T) (start count : ℕ) (bad beyond : Bool)
       → (count == 0 || nat_lt 4096 count) ≡ bad → nat_lt (length book) (start + count) ≡ beyond
       → w.«open» ≡ false → Phase book repeats link w
-      → (Message book true (places start count) (fresh (take count (drop start book)))
+      → (Message book true (range_with_len start count) (fresh (take count (drop start book)))
       → Phase book repeats (record link { sender = after; told = 0 }) (fresh (take count (drop start book))))
       → outcome (record link { sender = after; told = 0 }) ≡ Err StillOpen
-      → Next link w (call.Request start count) (shown (λ _. Done) (besides {X = Unit {0}} (λ _ link. record link { told = 0 }) (by_sender link
-      (cond bad (Err BadCount, link.sender) (cond beyond (Err BeyondBook, link.sender) (Ok tt, after))))))
-  asked link after w start count true beyond counted within shut stay then shows = (tt, stay, (refl, refl))
-  asked link after w start count false true counted within shut stay then shows = (tt, stay, (refl, refl))
-  asked link after w start zero false false counted within shut stay then shows = cc
-  asked link after w start (suc count) false false counted within shut stay then shows =
-      ((shut, search (rules, tests)), then (opening (chosen start (suc count) (search (rules, tests)))), (refl, shows))
+      → Next link w (call.Request start count) (showing (λ _. Done) (alone {X = Unit {0}} link
+      (◌>>=◌ {A = Unit {0} × SenderState} (if bad then Err BadCount else if beyond then Err BeyondBook else Ok (tt, after)) (λ requested. Ok (tt, record link { sender = requested.1; told = 0 })))))
+  asked link after w start count true beyond counted within shut stay opens shows = (tt, stay, (refl, refl))
+  asked link after w start count false true counted within shut stay opens shows = (tt, stay, (refl, refl))
+  asked link after w start zero false false counted within shut stay opens shows = cc
+  asked link after w start (suc count) false false counted within shut stay opens shows =
+      ((shut, search (rules, tests)), opens (opening (chosen start (suc count) (search (rules, tests)))), (refl, shows))
 
-  next_request : (start count : ℕ) {link : LinkState T} {w : Watch T} → Phase book repeats link w → Phase book repeats link w → Next link w (call.Request start count) (shown (λ _. Done) (request book start count link))
-  next_request start count (idle shut sync on) stay = asked _ _ _ start count _ _ refl refl shut stay (λ message. begun message sync on) refl
-  next_request start count (ready _ _ _ _ _ _ _) stay = (tt, stay, (refl, refl))
-  next_request start count (going _ _ _ _ _ _) stay = (tt, stay, (refl, refl))
-  next_request start count (hearing _ _ _ _ _) stay = (tt, stay, (refl, refl))
-  next_request start count (telling _ _ _ _ _) stay = (tt, stay, (refl, refl))
-  next_request start count (again _ _ _ _ _ _) stay = (tt, stay, (refl, refl))
-  next_request start count (coming _ _ _ _ _ _) stay = (tt, stay, (refl, refl))
-  next_request start count (missing _ _ _ _ _ _ _) stay = (tt, stay, (refl, refl))
-  next_request start count (over _ _) stay = (tt, stay, (refl, refl))
-  next_request start count (failed _ _ _ _ _ _) stay = (tt, stay, (refl, refl))
-  next_request start count (apart (closed shut) on) stay = asked _ _ _ start count _ _ refl refl shut stay (λ message. apart message on) refl
-  next_request start count (apart (opened _ _) _) stay = (tt, stay, (refl, refl))
-  next_request start count (parting (closed shut)) stay = asked _ _ _ start count _ _ refl refl shut stay (λ message. parting message) refl
-  next_request start count (parting (opened _ _)) stay = (tt, stay, (refl, refl))
-  next_request start count (breaking (closed shut)) stay = asked _ _ _ start count _ _ refl refl shut stay (λ message. breaking message) refl
-  next_request start count (breaking (opened _ _)) stay = (tt, stay, (refl, refl))
+  -- any call of the twelve; where it is turned down, or answers STILL, the link stays
+  moves : (call : Call) (heard : Heard) {link : LinkState T} {w : Watch T} → Phase book repeats link w → Phase book repeats link w
+      → Next link w call (made book heard call link)
+  moves (call.Request start count) heard (idle shut sync on) stay = asked _ _ _ start count _ _ refl refl shut stay (λ message. begun message sync on) refl
+  moves (call.Request start count) heard (apart (closed shut) on) stay = asked _ _ _ start count _ _ refl refl shut stay (λ message. apart message on) refl
+  moves (call.Request start count) heard (parting (closed shut)) stay = asked _ _ _ start count _ _ refl refl shut stay (λ message. parting message) refl
+  moves (call.Request start count) heard (breaking (closed shut)) stay = asked _ _ _ start count _ _ refl refl shut stay (λ message. breaking message) refl
+  moves call.Send heard (ready load rest sync on ahead tries few) stay = rw load (tt, going load rest sync on (once_more tries few) few, (refl, refl))
+  moves call.Carry Lost (going load rest sync on tries few) stay = (tt, missing load rest sync on (has_tried _ tries) (omega (tries, arith)) (omega (few, arith)), (refl, refl))
+  moves call.Carry Arrived (going load rest loose on tries few) stay = (tt, hearing load rest loose tries few, (refl, refl))
+  moves call.Carry Arrived (going load rest level_on on tries few) stay = (tt, hearing load rest level_on tries few, (refl, refl))
+  moves call.Carry Arrived (going load rest level_off on tries few) stay = (tt, hearing load rest level_off tries few, (refl, refl))
+  moves call.Carry Arrived (going load rest ahead_on on tries few) stay = (tt, again load rest ahead_on on tries few, (refl, refl))
+  moves call.Carry Arrived (going load rest ahead_off on tries few) stay = (tt, again load rest ahead_off on tries few, (refl, refl))
+  moves call.Tell heard (hearing load none sync tries few) stay = (refl, telling load none (ahead_of _) tries few, (refl, refl))
+  moves call.Tell heard (hearing load (next more rest) sync tries few) stay = (refl, telling load (next more rest) (ahead_of _) tries few, (refl, refl))
+  moves call.Reply heard (telling load rest ahead_on tries few) stay = (tt, coming load rest ahead_on timed tries few, (refl, refl))
+  moves call.Reply heard (telling load rest ahead_off tries few) stay = (tt, coming load rest ahead_off timed tries few, (refl, refl))
+  moves call.Reply heard (again load rest sync on tries few) stay = (tt, coming load rest sync on tries few, (refl, refl))
+  moves call.Return Lost (coming load rest sync on tries few) stay = (tt, missing load rest sync on (has_tried _ tries) (omega (tries, arith)) (omega (few, arith)), (refl, refl))
+  moves call.Return Arrived (coming load none sync on tries few) stay = ((few, omega arith), over (level sync) on, (refl, refl))
+  moves call.Return Arrived (coming load (next more rest) sync on tries few) stay = ((few, omega arith), ready more rest (level sync) on unsent refl (omega arith), (refl, refl))
+  moves call.Retry heard (missing load rest sync on ahead tries few) stay = (tt, retry_to _ refl load rest sync on ahead tries few, (refl, refl))
+  moves call.Abandon heard (ready load rest sync on ahead tries few) stay = (tt, failed load rest sync on ahead refl, (refl, refl))
+  moves call.Confirm heard (over sync on) stay = ((refl, (refl, refl, refl)), idle refl sync on, (refl, refl))
+  moves call.Confirm heard (failed {tries = zero} load none sync on unsent why) stay = ((refl, (omega arith, (omega arith, why))), apart (closed refl) on, (refl, refl))
+  moves call.Confirm heard (failed {tries = suc tries} load none sync on unsent why) stay = rw (sent_once tries) ((refl, (omega arith, (omega arith, why))), apart (closed refl) on, (refl, refl))
+  moves call.Confirm heard (failed load none sync on (tried {tries = tries}) why) stay = rw (sent_once tries) ((refl, (omega arith, (omega arith, why))), apart (closed refl) on, (refl, refl))
+  moves call.Confirm heard (failed load (next {loads = loads} more rest) sync on unsent why) stay = ((refl, (omega arith, (omega arith, why))), apart (closed refl) on, (refl, refl))
+  moves call.Confirm heard (failed load (next {loads = []} more rest) sync on tried why) stay = ((refl, (omega arith, (omega arith, why))), apart (closed refl) on, (refl, refl))
+  moves call.Confirm heard (failed load (next {loads = third ∷ loads} more rest) sync on tried why) stay = ((refl, (omega arith, (omega arith, why))), apart (closed refl) on, (refl, refl))
+  moves call.Part heard (apart {timer = false} message untimed) stay = (tt, parting message, (refl, refl))
+  moves call.Part heard (apart {fresh = true} {timer = true} message untimed) stay = (tt, parting message, (refl, refl))
+  moves call.Part heard (apart {fresh = false} {timer = true} message untimed) stay = (tt, breaking message, (refl, refl))
+  moves call.Part heard (apart {fresh = true} message timed) stay = (tt, parting message, (refl, refl))
+  moves call.Part heard (apart {fresh = false} message timed) stay = (tt, breaking message, (refl, refl))
+  moves call.Break heard (breaking message) stay = (tt, parting message, (refl, refl))
+  moves call.Meet heard (parting (closed shut)) stay = (tt, idle shut loose untimed, (refl, refl))
+  moves call.Meet heard (parting (opened load rest)) stay = (tt, begun (opened load rest) loose untimed, (refl, refl))
+  moves call heard (idle _ _ _) stay = (tt, stay, (refl, refl))
+  moves call heard phase stay = (tt, stay, (refl, refl))
 
-  next_send : {link : LinkState T} {w : Watch T} → Phase book repeats link w → Phase book repeats link w → Next link w (call.Send) (shown (λ _. Done) (send book link))
-  next_send (idle _ _ _) stay = (tt, stay, (refl, refl))
-  next_send (ready load rest sync on ahead tries few) stay = rw load (tt, going load rest sync on (once_more tries few) few, (refl, refl))
-  next_send (going _ _ _ _ _ _) stay = (tt, stay, (refl, refl))
-  next_send (hearing _ _ _ _ _) stay = (tt, stay, (refl, refl))
-  next_send (telling _ _ _ _ _) stay = (tt, stay, (refl, refl))
-  next_send (again _ _ _ _ _ _) stay = (tt, stay, (refl, refl))
-  next_send (coming _ _ _ _ _ _) stay = (tt, stay, (refl, refl))
-  next_send (missing _ _ _ _ _ _ _) stay = (tt, stay, (refl, refl))
-  next_send (over _ _) stay = (tt, stay, (refl, refl))
-  next_send (failed _ _ _ _ _ _) stay = (tt, stay, (refl, refl))
-  next_send (apart _ _) stay = (tt, stay, (refl, refl))
-  next_send (parting _) stay = (tt, stay, (refl, refl))
-  next_send (breaking _) stay = (tt, stay, (refl, refl))
-
-  next_carry : (heard : Heard) {link : LinkState T} {w : Watch T} → Phase book repeats link w → Phase book repeats link w → Next link w (call.Carry) (shown Polled (carry heard link))
-  next_carry heard (idle _ _ _) stay = (tt, stay, (refl, refl))
-  next_carry heard (ready _ _ _ _ _ _ _) stay = (tt, stay, (refl, refl))
-  next_carry Still (going _ _ _ _ _ _) stay = (tt, stay, (refl, refl))
-  next_carry Lost (going load rest sync on tries few) stay = (tt, missing load rest sync on (has_tried _ tries) (omega (tries, arith)) (omega (few, arith)), (refl, refl))
-  next_carry Arrived (going load rest loose on tries few) stay = (tt, hearing load rest loose tries few, (refl, refl))
-  next_carry Arrived (going load rest level_on on tries few) stay = (tt, hearing load rest level_on tries few, (refl, refl))
-  next_carry Arrived (going load rest level_off on tries few) stay = (tt, hearing load rest level_off tries few, (refl, refl))
-  next_carry Arrived (going load rest ahead_on on tries few) stay = (tt, again load rest ahead_on on tries few, (refl, refl))
-  next_carry Arrived (going load rest ahead_off on tries few) stay = (tt, again load rest ahead_off on tries few, (refl, refl))
-  next_carry heard (hearing _ _ _ _ _) stay = (tt, stay, (refl, refl))
-  next_carry heard (telling _ _ _ _ _) stay = (tt, stay, (refl, refl))
-  next_carry heard (again _ _ _ _ _ _) stay = (tt, stay, (refl, refl))
-  next_carry heard (coming _ _ _ _ _ _) stay = (tt, stay, (refl, refl))
-  next_carry heard (missing _ _ _ _ _ _ _) stay = (tt, stay, (refl, refl))
-  next_carry heard (over _ _) stay = (tt, stay, (refl, refl))
-  next_carry heard (failed _ _ _ _ _ _) stay = (tt, stay, (refl, refl))
-  next_carry heard (apart _ _) stay = (tt, stay, (refl, refl))
-  next_carry heard (parting _) stay = (tt, stay, (refl, refl))
-  next_carry heard (breaking _) stay = (tt, stay, (refl, refl))
-
-  next_tell : {link : LinkState T} {w : Watch T} → Phase book repeats link w → Phase book repeats link w → Next link w (call.Tell) (shown (λ told. Told told.0 told.1) (tell link))
-  next_tell (idle _ _ _) stay = (tt, stay, (refl, refl))
-  next_tell (ready _ _ _ _ _ _ _) stay = (tt, stay, (refl, refl))
-  next_tell (going _ _ _ _ _ _) stay = (tt, stay, (refl, refl))
-  next_tell (hearing load nothing sync tries few) stay = (refl, telling load nothing (ahead_of _) tries few, (refl, refl))
-  next_tell (hearing load (next more rest) sync tries few) stay = (refl, telling load (next more rest) (ahead_of _) tries few, (refl, refl))
-  next_tell (telling _ _ _ _ _) stay = (tt, stay, (refl, refl))
-  next_tell (again _ _ _ _ _ _) stay = (tt, stay, (refl, refl))
-  next_tell (coming _ _ _ _ _ _) stay = (tt, stay, (refl, refl))
-  next_tell (missing _ _ _ _ _ _ _) stay = (tt, stay, (refl, refl))
-  next_tell (over _ _) stay = (tt, stay, (refl, refl))
-  next_tell (failed _ _ _ _ _ _) stay = (tt, stay, (refl, refl))
-  next_tell (apart _ _) stay = (tt, stay, (refl, refl))
-  next_tell (parting _) stay = (tt, stay, (refl, refl))
-  next_tell (breaking _) stay = (tt, stay, (refl, refl))
-
-  next_reply : {link : LinkState T} {w : Watch T} → Phase book repeats link w → Phase book repeats link w → Next link w (call.Reply) (shown (λ _. Done) (reply link))
-  next_reply (idle _ _ _) stay = (tt, stay, (refl, refl))
-  next_reply (ready _ _ _ _ _ _ _) stay = (tt, stay, (refl, refl))
-  next_reply (going _ _ _ _ _ _) stay = (tt, stay, (refl, refl))
-  next_reply (hearing _ _ _ _ _) stay = (tt, stay, (refl, refl))
-  next_reply (telling load rest ahead_on tries few) stay = (tt, coming load rest ahead_on timed tries few, (refl, refl))
-  next_reply (telling load rest ahead_off tries few) stay = (tt, coming load rest ahead_off timed tries few, (refl, refl))
-  next_reply (again load rest sync on tries few) stay = (tt, coming load rest sync on tries few, (refl, refl))
-  next_reply (coming _ _ _ _ _ _) stay = (tt, stay, (refl, refl))
-  next_reply (missing _ _ _ _ _ _ _) stay = (tt, stay, (refl, refl))
-  next_reply (over _ _) stay = (tt, stay, (refl, refl))
-  next_reply (failed _ _ _ _ _ _) stay = (tt, stay, (refl, refl))
-  next_reply (apart _ _) stay = (tt, stay, (refl, refl))
-  next_reply (parting _) stay = (tt, stay, (refl, refl))
-  next_reply (breaking _) stay = (tt, stay, (refl, refl))
-
-  next_return : (heard : Heard) {link : LinkState T} {w : Watch T} → Phase book repeats link w → Phase book repeats link w → Next link w (call.Return) (shown Polled (return heard link))
-  next_return heard (idle _ _ _) stay = (tt, stay, (refl, refl))
-  next_return heard (ready _ _ _ _ _ _ _) stay = (tt, stay, (refl, refl))
-  next_return heard (going _ _ _ _ _ _) stay = (tt, stay, (refl, refl))
-  next_return heard (hearing _ _ _ _ _) stay = (tt, stay, (refl, refl))
-  next_return heard (telling _ _ _ _ _) stay = (tt, stay, (refl, refl))
-  next_return heard (again _ _ _ _ _ _) stay = (tt, stay, (refl, refl))
-  next_return Still (coming _ _ _ _ _ _) stay = (tt, stay, (refl, refl))
-  next_return Lost (coming load rest sync on tries few) stay = (tt, missing load rest sync on (has_tried _ tries) (omega (tries, arith)) (omega (few, arith)), (refl, refl))
-  next_return Arrived (coming load nothing sync on tries few) stay = ((few, omega arith), over (level sync) on, (refl, refl))
-  next_return Arrived (coming load (next more rest) sync on tries few) stay = ((few, omega arith), ready more rest (level sync) on unsent refl (omega arith), (refl, refl))
-  next_return heard (missing _ _ _ _ _ _ _) stay = (tt, stay, (refl, refl))
-  next_return heard (over _ _) stay = (tt, stay, (refl, refl))
-  next_return heard (failed _ _ _ _ _ _) stay = (tt, stay, (refl, refl))
-  next_return heard (apart _ _) stay = (tt, stay, (refl, refl))
-  next_return heard (parting _) stay = (tt, stay, (refl, refl))
-  next_return heard (breaking _) stay = (tt, stay, (refl, refl))
-
-  next_retry : {link : LinkState T} {w : Watch T} → Phase book repeats link w → Phase book repeats link w → Next link w (call.Retry) (shown (λ _. Done) (retry link))
-  next_retry (idle _ _ _) stay = (tt, stay, (refl, refl))
-  next_retry (ready _ _ _ _ _ _ _) stay = (tt, stay, (refl, refl))
-  next_retry (going _ _ _ _ _ _) stay = (tt, stay, (refl, refl))
-  next_retry (hearing _ _ _ _ _) stay = (tt, stay, (refl, refl))
-  next_retry (telling _ _ _ _ _) stay = (tt, stay, (refl, refl))
-  next_retry (again _ _ _ _ _ _) stay = (tt, stay, (refl, refl))
-  next_retry (coming _ _ _ _ _ _) stay = (tt, stay, (refl, refl))
-  next_retry (missing load rest sync on ahead tries few) stay = (tt, retry_to _ refl load rest sync on ahead tries few, (refl, refl))
-  next_retry (over _ _) stay = (tt, stay, (refl, refl))
-  next_retry (failed _ _ _ _ _ _) stay = (tt, stay, (refl, refl))
-  next_retry (apart _ _) stay = (tt, stay, (refl, refl))
-  next_retry (parting _) stay = (tt, stay, (refl, refl))
-  next_retry (breaking _) stay = (tt, stay, (refl, refl))
-
-  next_abandon : {link : LinkState T} {w : Watch T} → Phase book repeats link w → Phase book repeats link w → Next link w (call.Abandon) (shown (λ _. Done) (abandon link))
-  next_abandon (idle _ _ _) stay = (tt, stay, (refl, refl))
-  next_abandon (ready load rest sync on ahead tries few) stay = (tt, failed load rest sync on ahead refl, (refl, refl))
-  next_abandon (going _ _ _ _ _ _) stay = (tt, stay, (refl, refl))
-  next_abandon (hearing _ _ _ _ _) stay = (tt, stay, (refl, refl))
-  next_abandon (telling _ _ _ _ _) stay = (tt, stay, (refl, refl))
-  next_abandon (again _ _ _ _ _ _) stay = (tt, stay, (refl, refl))
-  next_abandon (coming _ _ _ _ _ _) stay = (tt, stay, (refl, refl))
-  next_abandon (missing _ _ _ _ _ _ _) stay = (tt, stay, (refl, refl))
-  next_abandon (over _ _) stay = (tt, stay, (refl, refl))
-  next_abandon (failed _ _ _ _ _ _) stay = (tt, stay, (refl, refl))
-  next_abandon (apart _ _) stay = (tt, stay, (refl, refl))
-  next_abandon (parting _) stay = (tt, stay, (refl, refl))
-  next_abandon (breaking _) stay = (tt, stay, (refl, refl))
-
-  next_confirm : {link : LinkState T} {w : Watch T} → Phase book repeats link w → Phase book repeats link w → Next link w (call.Confirm) (shown Confirmed (confirm link))
-  next_confirm (idle _ _ _) stay = (tt, stay, (refl, refl))
-  next_confirm (ready _ _ _ _ _ _ _) stay = (tt, stay, (refl, refl))
-  next_confirm (going _ _ _ _ _ _) stay = (tt, stay, (refl, refl))
-  next_confirm (hearing _ _ _ _ _) stay = (tt, stay, (refl, refl))
-  next_confirm (telling _ _ _ _ _) stay = (tt, stay, (refl, refl))
-  next_confirm (again _ _ _ _ _ _) stay = (tt, stay, (refl, refl))
-  next_confirm (coming _ _ _ _ _ _) stay = (tt, stay, (refl, refl))
-  next_confirm (missing _ _ _ _ _ _ _) stay = (tt, stay, (refl, refl))
-  next_confirm (over sync on) stay = ((refl, (refl, refl, refl)), idle refl sync on, (refl, refl))
-  next_confirm (failed {tries = zero} load nothing sync on unsent why) stay = ((refl, (omega arith, (omega arith, why))), apart (closed refl) on, (refl, refl))
-  next_confirm (failed {tries = suc tries} load nothing sync on unsent why) stay = rw (sent_once tries) ((refl, (omega arith, (omega arith, why))), apart (closed refl) on, (refl, refl))
-  next_confirm (failed load nothing sync on (tried {tries = tries}) why) stay = rw (sent_once tries) ((refl, (omega arith, (omega arith, why))), apart (closed refl) on, (refl, refl))
-  next_confirm (failed load (next {loads = loads} more rest) sync on unsent why) stay = ((refl, (omega arith, (omega arith, why))), apart (closed refl) on, (refl, refl))
-  next_confirm (failed load (next {loads = []} more rest) sync on tried why) stay = ((refl, (omega arith, (omega arith, why))), apart (closed refl) on, (refl, refl))
-  next_confirm (failed load (next {loads = third ∷ loads} more rest) sync on tried why) stay = ((refl, (omega arith, (omega arith, why))), apart (closed refl) on, (refl, refl))
-  next_confirm (apart _ _) stay = (tt, stay, (refl, refl))
-  next_confirm (parting _) stay = (tt, stay, (refl, refl))
-  next_confirm (breaking _) stay = (tt, stay, (refl, refl))
-
-  next_part : {link : LinkState T} {w : Watch T} → Phase book repeats link w → Phase book repeats link w → Next link w (call.Part) (shown (λ _. Done) (part link))
-  next_part (idle _ _ _) stay = (tt, stay, (refl, refl))
-  next_part (ready _ _ _ _ _ _ _) stay = (tt, stay, (refl, refl))
-  next_part (going _ _ _ _ _ _) stay = (tt, stay, (refl, refl))
-  next_part (hearing _ _ _ _ _) stay = (tt, stay, (refl, refl))
-  next_part (telling _ _ _ _ _) stay = (tt, stay, (refl, refl))
-  next_part (again _ _ _ _ _ _) stay = (tt, stay, (refl, refl))
-  next_part (coming _ _ _ _ _ _) stay = (tt, stay, (refl, refl))
-  next_part (missing _ _ _ _ _ _ _) stay = (tt, stay, (refl, refl))
-  next_part (over _ _) stay = (tt, stay, (refl, refl))
-  next_part (failed _ _ _ _ _ _) stay = (tt, stay, (refl, refl))
-  next_part (apart {timer = false} message untimed) stay = (tt, parting message, (refl, refl))
-  next_part (apart {fresh = true} {timer = true} message untimed) stay = (tt, parting message, (refl, refl))
-  next_part (apart {fresh = false} {timer = true} message untimed) stay = (tt, breaking message, (refl, refl))
-  next_part (apart {fresh = true} message timed) stay = (tt, parting message, (refl, refl))
-  next_part (apart {fresh = false} message timed) stay = (tt, breaking message, (refl, refl))
-  next_part (parting _) stay = (tt, stay, (refl, refl))
-  next_part (breaking _) stay = (tt, stay, (refl, refl))
-
-  next_break : {link : LinkState T} {w : Watch T} → Phase book repeats link w → Phase book repeats link w → Next link w (call.Break) (shown (λ _. Done) (break link))
-  next_break (idle _ _ _) stay = (tt, stay, (refl, refl))
-  next_break (ready _ _ _ _ _ _ _) stay = (tt, stay, (refl, refl))
-  next_break (going _ _ _ _ _ _) stay = (tt, stay, (refl, refl))
-  next_break (hearing _ _ _ _ _) stay = (tt, stay, (refl, refl))
-  next_break (telling _ _ _ _ _) stay = (tt, stay, (refl, refl))
-  next_break (again _ _ _ _ _ _) stay = (tt, stay, (refl, refl))
-  next_break (coming _ _ _ _ _ _) stay = (tt, stay, (refl, refl))
-  next_break (missing _ _ _ _ _ _ _) stay = (tt, stay, (refl, refl))
-  next_break (over _ _) stay = (tt, stay, (refl, refl))
-  next_break (failed _ _ _ _ _ _) stay = (tt, stay, (refl, refl))
-  next_break (apart _ _) stay = (tt, stay, (refl, refl))
-  next_break (parting _) stay = (tt, stay, (refl, refl))
-  next_break (breaking message) stay = (tt, parting message, (refl, refl))
-
-  next_meet : {link : LinkState T} {w : Watch T} → Phase book repeats link w → Phase book repeats link w → Next link w (call.Meet) (shown (λ _. Done) (meet link))
-  next_meet (idle _ _ _) stay = (tt, stay, (refl, refl))
-  next_meet (ready _ _ _ _ _ _ _) stay = (tt, stay, (refl, refl))
-  next_meet (going _ _ _ _ _ _) stay = (tt, stay, (refl, refl))
-  next_meet (hearing _ _ _ _ _) stay = (tt, stay, (refl, refl))
-  next_meet (telling _ _ _ _ _) stay = (tt, stay, (refl, refl))
-  next_meet (again _ _ _ _ _ _) stay = (tt, stay, (refl, refl))
-  next_meet (coming _ _ _ _ _ _) stay = (tt, stay, (refl, refl))
-  next_meet (missing _ _ _ _ _ _ _) stay = (tt, stay, (refl, refl))
-  next_meet (over _ _) stay = (tt, stay, (refl, refl))
-  next_meet (failed _ _ _ _ _ _) stay = (tt, stay, (refl, refl))
-  next_meet (apart _ _) stay = (tt, stay, (refl, refl))
-  next_meet (parting (closed shut)) stay = (tt, idle shut loose untimed, (refl, refl))
-  next_meet (parting (opened load rest)) stay = (tt, begun (opened load rest) loose untimed, (refl, refl))
-  next_meet (breaking _) stay = (tt, stay, (refl, refl))
-
-  -- any call of the twelve
-  next_call : (heard : Heard) (call : Call) {link : LinkState T} {w : Watch T} → Phase book repeats link w → Next link w call (made book heard call link)
-  next_call heard (call.Request start count) phase = next_request start count phase phase
-  next_call heard call.Send phase = next_send phase phase
-  next_call heard call.Carry phase = next_carry heard phase phase
-  next_call heard call.Tell phase = next_tell phase phase
-  next_call heard call.Reply phase = next_reply phase phase
-  next_call heard call.Return phase = next_return heard phase phase
-  next_call heard call.Retry phase = next_retry phase phase
-  next_call heard call.Abandon phase = next_abandon phase phase
-  next_call heard call.Confirm phase = next_confirm phase phase
-  next_call heard call.Part phase = next_part phase phase
-  next_call heard call.Break phase = next_break phase phase
-  next_call heard call.Meet phase = next_meet phase phase
-
-  -- a step leads to a phase
-  next_step : (before after : LinkState T) (event : Event T) (w : Watch T) → Phase book repeats before w → Step book before event after
-      → Next before w event.call (event.answer, after)
-  next_step before after event w phase step =
-      let heard = choice event.answer in
-      subst (λ outcome. Next before w event.call outcome) (sym step) (next_call heard event.call phase)
+  -- an event that leads to a link leads to a phase
+  next_event : (before after : LinkState T) (event : Event T) (w : Watch T) → Phase book repeats before w → EventLeads book before event after
+      → Right repeats w (turn event.call event.answer) × Phase book repeats after (advance book w (turn event.call event.answer)) × Kept (turn event.call event.answer) before after
+  next_event before after event w phase leads =
+      let effect = effect_of book event before in
+      let moved = moves event.call (choice event.answer) phase phase in
+      let told = subst (λ answer. Right repeats w (turn event.call answer) × Phase book repeats effect.after (advance book w (turn event.call answer)) × Kept (turn event.call answer) before effect.after) (sym leads.answers) moved in
+      subst (λ after. Right repeats w (turn event.call event.answer) × Phase book repeats after (advance book w (turn event.call event.answer)) × Kept (turn event.call event.answer) before after) (sym leads.leaves) told
 
   -- a history from a phase is as it should be, turn by turn
-  ran_rightly : (before after : LinkState T) (events : List (Event T)) (w : Watch T) → Phase book repeats before w → Ran book before events after
+  leads_rightly : (before after : LinkState T) (events : List (Event T)) (w : Watch T) → Phase book repeats before w → EventsLead book before events after
       → Rightly book repeats w (turns events)
-  ran_rightly before after [] w phase ran = tt
-  ran_rightly before after (event ∷ events) w phase (between, step, ran) =
-      let moved = next_step before between event w phase step in
-      (moved.0, ran_rightly between after events (advance book w (turn event.call event.answer)) moved.1 ran)
+  leads_rightly before after [] w phase leads = tt
+  leads_rightly before after (event ∷ events) w phase (between, first, leads) =
+      let moved = next_event before between event w phase first in
+      (moved.0, leads_rightly between after events (advance book w (turn event.call event.answer)) moved.1 leads)
 
   -- what is told and what is left to tell are few, so the count does not wrap
   abbrev Few : LinkState T → Watch T → Type 0
@@ -354,38 +181,36 @@ module _ {T : Type 0} (book : List T) (repeats : ℕ) (small : repeats ≤ 10) w
       → Few after (advance book w turn) × (tally (outcome before) before.told (turn ∷ rest) ≡ tally (outcome after) after.told rest)
   tally_turn (asks start count) w before after rest right (told, answer) few =
       let loads = take count (drop start book) in
-      (omega (told, right.1, marked_length true loads, length-take count (drop start book), arith), rw (answer, told) refl)
-  tally_turn (tells mark load) w before after rest right (told, answer) few =
+      (omega (told, right.1, positioned_length true loads, length-take count (drop start book), arith), rw (answer, told) refl)
+  tally_turn (tells position load) w before after rest right (told, answer) few =
       let shorter : length w.left ≡ suc (length (drop 1 w.left)) = ap length right in
       let once : more before.told ≡ before.told + 1 = omega (few, shorter, arith) in
       (omega (told, once, few, shorter, arith), rw (answer, told, once) refl)
-  tally_turn replied w before after rest right (told, answer) few = (omega (told, few, arith), rw (answer, told) refl)
-  tally_turn loses w before after rest right (told, answer) few = (omega (told, few, arith), rw (answer, told) refl)
-  tally_turn gives_up w before after rest right (told, answer) few = (omega (told, few, arith), rw (answer, told) refl)
   tally_turn (ends word) w before after rest right (told, answer) few = (omega (told, few, arith), rw (answer, told) refl)
-  tally_turn other w before after rest right (told, answer) few = (omega (told, few, arith), rw (answer, told) refl)
+  tally_turn turn w before after rest right (told, answer) few = (omega (told, few, arith), rw (answer, told) refl)
 
-  tallied : (before after : LinkState T) (events : List (Event T)) (w : Watch T) → Phase book repeats before w → Few before w → Ran book before events after
+  tallied : (before after : LinkState T) (events : List (Event T)) (w : Watch T) → Phase book repeats before w → Few before w → EventsLead book before events after
       → tally (outcome before) before.told (turns events) ≡ outcome after
-  tallied before after [] w phase few ran = ap outcome (sym ran)
-  tallied before after (event ∷ events) w phase few (between, step, ran) =
-      let moved = next_step before between event w phase step in
+  tallied before after [] w phase few leads = ap outcome (sym leads)
+  tallied before after (event ∷ events) w phase few (between, first, leads) =
+      let moved = next_event before between event w phase first in
       let turned = turn event.call event.answer in
       let tally = tally_turn turned w before between (turns events) moved.0 moved.2 few in
-      tally.1 ∙ tallied between after events (advance book w turned) moved.1 tally.0 ran
+      tally.1 ∙ tallied between after events (advance book w turned) moved.1 tally.0 leads
 
-module _ {T : Type 0} (book : List T) (repeats : ℕ) (history : List (Event T)) (link : LinkState T) (reached : Reached book repeats history link) where
+module _ {T : Type 0} (book : List T) (repeats : ℕ) (history : List (Event T)) (link : LinkState T) (leads : HistoryLeads book repeats history link) where
   -- the watch before the first request
   abbrev unwatched : Watch T
   unwatched = record { «open» = false; left = []; count = 0; loss = 0; given = false }
 
-  pub reached_truthful : Truthful book repeats (turns history)
-  reached_truthful =
-      let rightly = ran_rightly book repeats reached.0 (started repeats) link history unwatched (idle refl loose untimed) reached.1 in
-      rightly_truthful book repeats unwatched (turns history) rightly
+  rightly : Rightly book repeats unwatched (turns history)
+  rightly = leads_rightly book repeats leads.0 (started repeats) link history unwatched (idle refl loose untimed) leads.1
 
-  pub reached_outcome : outcome link ≡ outcome_of (turns history)
-  reached_outcome =
-      let rightly = ran_rightly book repeats reached.0 (started repeats) link history unwatched (idle refl loose untimed) reached.1 in
+  pub history_lawful : IsLawful book repeats history
+  history_lawful = rightly_truthful book repeats unwatched (turns history) rightly
+
+  pub history_outcome : outcome link ≡ outcome_of history
+  history_outcome =
       let closed = tally_right book repeats false unwatched (Err NoneConfirmed) 0 (turns history) refl rightly in
-      sym (tallied book repeats reached.0 (started repeats) link history unwatched (idle refl loose untimed) (omega arith) reached.1) ∙ closed
+      sym (tallied book repeats leads.0 (started repeats) link history unwatched (idle refl loose untimed) (omega arith) leads.1)
+      ∙ closed ∙ last_is None (messages (turns history))

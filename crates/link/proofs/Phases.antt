@@ -8,16 +8,16 @@ use Rattle.link.specs.declared.places.SenderPlace.{SenderPlace}
 use Rattle.link.specs.declared.places.SenderPlace.TheVariants.{ToSend, AwaitsReply, ToConfirm, ToPart, ToMeet}
 use Rattle.link.specs.declared.places.HutPlace.{HutPlace}
 use Rattle.link.specs.declared.places.HutPlace.TheVariants.{AwaitsFrame, ToTell, ToReply, ToReplyAgain, ToTellBreak}
-use Rattle.link.specs.declared.words.Mark.{Mark}
+use Rattle.link.specs.declared.words.Position.{Position}
 use Rattle.link.specs.declared.words.Word.{Word}
-use Rattle.link.specs.Senders.{lone}
+use Rattle.link.specs.Laws.{positioned}
+use Rattle.link.specs.Senders.{is_lone}
 use Rattle.link.specs.States.{SenderState, HutState, LinkState}
-use Rattle.link.specs.Truths.{marked}
 use Rattle.link.proofs.Watches.{Watch}
 
 -- the loads at places of a book
 pub data Rest {T : Type 0} (book : List T) : List ℕ → List T → Type 0 where
-  nothing : Rest book [] []
+  none : Rest book [] []
   next : {place : ℕ} {places : List ℕ} {load : T} {loads : List T} → slice_get book place ≡ Some load → Rest book places loads
       → Rest book (place ∷ places) (load ∷ loads)
 
@@ -40,11 +40,11 @@ pub data Tried : Bool → ℕ → Type 0 where
   tried : {tries : ℕ} → Tried true (suc tries)
 
 -- what is still to be told
-abbrev pub left_of : {T : Type 0} → Bool → Bool → List T → List (Mark × T)
-left_of false first loads = marked first loads
-left_of true first loads = drop 1 (marked first loads)
+abbrev pub left_of : {T : Type 0} → Bool → Bool → List T → List (Position × T)
+left_of false first loads = positioned first loads
+left_of true first loads = drop 1 (positioned first loads)
 
-abbrev pub watch : {T : Type 0} → List (Mark × T) → ℕ → ℕ → Bool → Watch T
+abbrev pub watch : {T : Type 0} → List (Position × T) → ℕ → ℕ → Bool → Watch T
 watch left count loss given = record { «open» = true; left = left; count = count; loss = loss; given = given }
 
 abbrev pub sender_at : SenderPlace → Bool → Bool → Bool → Bool → Bool → List ℕ → ℕ → SenderState
@@ -74,7 +74,7 @@ hut_at place fresh strict timer quiet expected held = record {
 pub data Message {T : Type 0} (book : List T) : Bool → List ℕ → Watch T → Type 0 where
   closed : {w : Watch T} → w.«open» ≡ false → Message book false [] w
   opened : {place : ℕ} {places : List ℕ} {load : T} {loads : List T} → slice_get book place ≡ Some load → Rest book places loads
-      → Message book true (place ∷ places) (watch (marked true (load ∷ loads)) (suc (length loads)) 0 false)
+      → Message book true (place ∷ places) (watch (positioned true (load ∷ loads)) (suc (length loads)) 0 false)
 
 module _ {T : Type 0} (book : List T) (repeats : ℕ) where
   abbrev pub link_at : SenderState → HutState T → ℕ → Option Word → List (Frame T) → List (Frame EmptyLoad) → LinkState T
@@ -89,7 +89,7 @@ module _ {T : Type 0} (book : List T) (repeats : ℕ) where
   }
 
   abbrev pub frame_at : Bool → Bool → List ℕ → T → Frame T
-  frame_at first toggle rest load = record { first = first; last = lone rest; toggle = toggle; load = load }
+  frame_at first toggle rest load = record { first = first; last = is_lone rest; toggle = toggle; load = load }
 
   pub data Phase : LinkState T → Watch T → Type 0 where
     idle : {toggle fresh strict timer expected : Bool} {held : Option (Frame T)} {told : ℕ} {word : Option Word} {w : Watch T}

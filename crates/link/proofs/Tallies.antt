@@ -1,24 +1,33 @@
 -- The outcome of a history's last message, from a count of the loads told that is kept turn by turn.
 use Rattle.std.proofs.Common.{◌≡◌, ℕ, suc, ◌+◌, Bool, true, false, List, [], ◌∷◌, length, Ok, Err, Result, Some, None, Option, refl, ap, ◌∙◌, add-zero, zero-add, arith}
+use Rattle.std.specs.List.{last_or}
 use Rattle.link.specs.declared.refusals.LinkRefusal.{LinkRefusal}
 use Rattle.link.specs.declared.refusals.LinkRefusal.TheVariants.{StillOpen}
 use Rattle.link.specs.declared.words.Word.{Word}
-use Rattle.link.specs.Turns.{Turn, asks, tells, replied, loses, gives_up, ends, other}
-use Rattle.link.specs.Truths.{message_turns, tellings, said, outcome_by, outcome_or}
+use Rattle.link.specs.Turns.{Turn, asks, tells, ends}
+use Rattle.link.specs.Messages.{Message, up_to_word, messages, told_in, said}
+use Rattle.link.specs.Laws.{message_outcome, last_outcome}
 use Rattle.link.proofs.Watches.{Watch, advance, Rightly}
 
 -- a count of the loads told, and the outcome with it, kept turn by turn
 abbrev pub tally : {T : Type 0} → Result (Word × ℕ) LinkRefusal → ℕ → List (Turn T) → Result (Word × ℕ) LinkRefusal
 tally last told [] = last
 tally last told (asks start count ∷ turns) = tally (Err StillOpen) 0 turns
-tally last told (tells mark load ∷ turns) = tally last (told + 1) turns
-tally last told (replied ∷ turns) = tally last told turns
-tally last told (loses ∷ turns) = tally last told turns
-tally last told (gives_up ∷ turns) = tally last told turns
+tally last told (tells position load ∷ turns) = tally last (told + 1) turns
 tally last told (ends word ∷ turns) = tally (Ok (word, told)) told turns
-tally last told (other ∷ turns) = tally last told turns
+tally last told (turn ∷ turns) = tally last told turns
 
-one_told : (word : Option Word) (told more : ℕ) → outcome_by word (told + 1 + more) ≡ outcome_by word (told + suc more)
+-- the outcome of the last of these messages, or else the one that is given
+abbrev pub outcome_or : {T : Type 0} → Result (Word × ℕ) LinkRefusal → List (Message T) → Result (Word × ℕ) LinkRefusal
+outcome_or last [] = last
+outcome_or last (message ∷ later) = outcome_or (last_outcome (Some message)) later
+
+pub last_is : {T : Type 0} (last : Option (Message T)) (messages : List (Message T))
+    → outcome_or (last_outcome last) messages ≡ last_outcome (last_or last messages)
+last_is last [] = refl
+last_is last (message ∷ later) = last_is (Some message) later
+
+one_told : (word : Option Word) (told more : ℕ) → message_outcome word (told + 1 + more) ≡ message_outcome word (told + suc more)
 one_told None told more = refl
 one_told (Some word) told more = ap (λ n. Ok (word, n)) (omega arith)
 
@@ -27,33 +36,27 @@ abbrev counted : Bool → Result (Word × ℕ) LinkRefusal → Result (Word × �
 counted true last = Err StillOpen
 counted false last = last
 
-abbrev pub so_far : {T : Type 0} → Bool → Result (Word × ℕ) LinkRefusal → ℕ → List (Turn T) → Result (Word × ℕ) LinkRefusal
-so_far true last told turns = outcome_by (said (message_turns turns)) (told + length (tellings (message_turns turns)))
+abbrev so_far : {T : Type 0} → Bool → Result (Word × ℕ) LinkRefusal → ℕ → List (Turn T) → Result (Word × ℕ) LinkRefusal
+so_far true last told turns = message_outcome (said (up_to_word turns)) (told + length (told_in (up_to_word turns)))
 so_far false last told turns = last
 
 module _ {T : Type 0} (book : List T) (repeats : ℕ) where
   -- the count leads to the outcome of the last message
   pub tally_right : (busy : Bool) (w : Watch T) (last : Result (Word × ℕ) LinkRefusal) (told : ℕ) (turns : List (Turn T)) → w.«open» ≡ busy
-      → Rightly book repeats w turns → tally (counted busy last) told turns ≡ outcome_or (so_far busy last told turns) turns
+      → Rightly book repeats w turns → tally (counted busy last) told turns ≡ outcome_or (so_far busy last told turns) (messages turns)
   tally_right true w last told [] busy rightly = refl
   tally_right false w last told [] busy rightly = refl
   tally_right true w last told (asks start count ∷ turns) busy (right, rightly) = cc
   tally_right false w last told (asks start count ∷ turns) busy (right, rightly) =
       tally_right true (advance book w (asks start count)) last 0 turns refl rightly
-      ∙ rw (zero-add (length (tellings (message_turns turns)))) refl
-  tally_right true w last told (tells mark load ∷ turns) busy (right, rightly) =
-      tally_right true (advance book w (tells mark load)) last (told + 1) turns busy rightly
-      ∙ ap (λ last. outcome_or last turns) (one_told (said (message_turns turns)) told (length (tellings (message_turns turns))))
-  tally_right false w last told (tells mark load ∷ turns) busy (right, rightly) =
-      tally_right false (advance book w (tells mark load)) last (told + 1) turns busy rightly
-  tally_right true w last told (replied ∷ turns) busy (right, rightly) = tally_right true (advance book w replied) last told turns busy rightly
-  tally_right false w last told (replied ∷ turns) busy (right, rightly) = tally_right false (advance book w replied) last told turns busy rightly
-  tally_right true w last told (loses ∷ turns) busy (right, rightly) = tally_right true (advance book w loses) last told turns busy rightly
-  tally_right false w last told (loses ∷ turns) busy (right, rightly) = tally_right false (advance book w loses) last told turns busy rightly
-  tally_right true w last told (gives_up ∷ turns) busy (right, rightly) = tally_right true (advance book w gives_up) last told turns busy rightly
-  tally_right false w last told (gives_up ∷ turns) busy (right, rightly) = tally_right false (advance book w gives_up) last told turns busy rightly
+      ∙ rw (zero-add (length (told_in (up_to_word turns)))) refl
+  tally_right true w last told (tells position load ∷ turns) busy (right, rightly) =
+      tally_right true (advance book w (tells position load)) last (told + 1) turns busy rightly
+      ∙ ap (λ last. outcome_or last (messages turns)) (one_told (said (up_to_word turns)) told (length (told_in (up_to_word turns))))
+  tally_right false w last told (tells position load ∷ turns) busy (right, rightly) =
+      tally_right false (advance book w (tells position load)) last (told + 1) turns busy rightly
   tally_right true w last told (ends word ∷ turns) busy (right, rightly) =
       rw (add-zero told) (tally_right false (advance book w (ends word)) (Ok (word, told)) told turns refl rightly)
   tally_right false w last told (ends word ∷ turns) busy (right, rightly) = cc
-  tally_right true w last told (other ∷ turns) busy (right, rightly) = tally_right true w last told turns busy rightly
-  tally_right false w last told (other ∷ turns) busy (right, rightly) = tally_right false w last told turns busy rightly
+  tally_right true w last told (turn ∷ turns) busy (right, rightly) = tally_right true (advance book w turn) last told turns busy rightly
+  tally_right false w last told (turn ∷ turns) busy (right, rightly) = tally_right false (advance book w turn) last told turns busy rightly

@@ -1,28 +1,26 @@
--- Calls on a link over two channels, with what they do to the channels; and a run's answer, its calls and its log.
-use Rattle.std.specs.Prelude.{◌≡◌, ℕ, cond, nat_lt, List, [], ◌∷◌, length, take, drop, Ok, Err, Result}
+-- Calls on a link over two channels, with how they use the channels; and a run's answer, its calls and its log.
+use Rattle.std.specs.Prelude.{◌≡◌, ℕ, if◌then◌else◌, nat_lt, List, [], ◌∷◌, length, take, drop, Ok, Err, Result}
 use Rattle.loads.specs.declared.empties.EmptyLoad.{EmptyLoad}
 use Rattle.channel.specs.declared.rules.Channel.{Ghosts}
-use Rattle.channel.specs.Rows.{Row}
+use Rattle.channel.specs.Rows.{Row as RowLeads}
 use Rattle.link.specs.declared.calls.Call.{Call}
 use Rattle.link.specs.declared.events.Event.{Event}
 use Rattle.link.specs.declared.refusals.LinkRefusal.{LinkRefusal}
 use Rattle.link.specs.declared.refusals.LinkRefusal.TheVariants.{ShortLog}
-use Rattle.link.specs.Doings.{to_hut_does, back_does}
-use Rattle.link.specs.Histories.{choice, Step}
+use Rattle.link.specs.Histories.{effect_of, EventLeads}
 use Rattle.link.specs.States.{LinkParts, plain}
 
 module _ {T K L : Type 0} (k : Ghosts K T) (l : Ghosts L EmptyLoad) (book : List T) where
-  -- one call with its answer: the link by the rules, and each channel by a row of puts and polls
-  abbrev pub Stepped : LinkParts T K L → Event T → LinkParts T K L → Type 0
-  Stepped before event after =
-      Step book (plain k l before) event (plain k l after)
-      × Row k before.to_hut (to_hut_does book (choice event.answer) event.call (plain k l before)) after.to_hut
-      × Row l before.back (back_does (choice event.answer) event.call (plain k l before)) after.back
+  -- a link steps by an event: it is led as the call says, and each channel is used as the call says
+  pub record Steps (before : LinkParts T K L) (event : Event T) (after : LinkParts T K L) : Type 0 where
+    pub leads : EventLeads book (plain k l before) event (plain k l after)
+    pub to_hut : RowLeads k before.to_hut (effect_of book event (plain k l before)).to_hut after.to_hut
+    pub back : RowLeads l before.back (effect_of book event (plain k l before)).back after.back
 
-  -- calls one after another
+  -- events one after another
   abbrev pub Runs : LinkParts T K L → List (Event T) → LinkParts T K L → Type 0
   Runs before [] after = after ≡ before
-  Runs before (event ∷ events) after = (between : LinkParts T K L) × Stepped before event between × Runs between events after
+  Runs before (event ∷ events) after = (between : LinkParts T K L) × Steps before event between × Runs between events after
 
 -- the call of an event
 abbrev pub call_of : {T : Type 0} → Event T → Call
@@ -30,10 +28,10 @@ call_of event = event.call
 
 -- a run of so many calls, with a log for so many: its answer, and how many it makes
 abbrev pub run_answer : ℕ → ℕ → Result (Unit {0}) LinkRefusal
-run_answer calls log = cond (nat_lt log calls) (Err ShortLog) (Ok tt)
+run_answer calls log = if nat_lt log calls then Err ShortLog else Ok tt
 
 abbrev pub run_count : ℕ → ℕ → ℕ
-run_count calls log = cond (nat_lt log calls) 0 calls
+run_count calls log = if nat_lt log calls then 0 else calls
 
 -- by the calls and the log before: what a run has written to the log after, and what is behind that
 abbrev pub written : {T : Type 0} → List Call → List (Event T) → List (Event T) → List (Event T)

@@ -1,4 +1,4 @@
--- What an event means for a message.
+-- What an event of a history means for its messages.
 use Rattle.std.specs.Prelude.{ℕ, List, map, Ok, Err, Result}
 use Rattle.link.specs.declared.calls.Call.{Call}
 use Rattle.link.specs.declared.calls.Call.TheVariants as call
@@ -6,62 +6,65 @@ use Rattle.link.specs.declared.events.Answer.{Answer}
 use Rattle.link.specs.declared.events.Answer.TheVariants.{Done, Polled, Told, Confirmed}
 use Rattle.link.specs.declared.events.Event.{Event}
 use Rattle.link.specs.declared.refusals.LinkRefusal.{LinkRefusal}
+use Rattle.link.specs.declared.words.Heard.{Heard}
 use Rattle.link.specs.declared.words.Heard.TheVariants.{Still, Arrived, Lost}
-use Rattle.link.specs.declared.words.Mark.{Mark}
+use Rattle.link.specs.declared.words.Position.{Position}
 use Rattle.link.specs.declared.words.Word.{Word}
 
--- a request was accepted; the hut was told a load; a reply arrived; a frame or a reply was lost; an abandon was accepted;
--- a message was confirmed; or nothing of these
+-- what a channel lost: on K a frame, on L a reply
+pub data Loss : Type 0 where
+  a_frame : Loss
+  a_reply : Loss
+
+-- `asks start count` is an accepted request, `sends` an accepted send; `tells` is a load that the hut is told, with its
+-- position; `replied` a reply that arrived; `loses` a loss; `gives_up` an accepted abandon; `ends` a confirm with its word;
+-- `breaks` and `meets` are an accepted break and meet; `works` is any other accepted call that does not answer STILL, and
+-- `nothing` one that does, or one that is turned down
 pub data Turn (T : Type 0) : Type 0 where
   asks : ℕ → ℕ → Turn T
-  tells : Mark → T → Turn T
+  sends : Turn T
+  tells : Position → T → Turn T
   replied : Turn T
-  loses : Turn T
+  loses : Loss → Turn T
   gives_up : Turn T
   ends : Word → Turn T
-  other : Turn T
+  breaks : Turn T
+  meets : Turn T
+  works : Turn T
+  nothing : Turn T
 
 module _ {T : Type 0} where
-  -- a call that was accepted with nothing to show
+  -- a call that was accepted with nothing to show; each is named, so that none is left out of a law by default
   abbrev pub done_turn : Call → Turn T
   done_turn (call.Request start count) = asks start count
-  done_turn call.Send = other
-  done_turn call.Carry = other
-  done_turn call.Tell = other
-  done_turn call.Reply = other
-  done_turn call.Return = other
-  done_turn call.Retry = other
+  done_turn call.Send = sends
+  done_turn call.Carry = works
+  done_turn call.Tell = works
+  done_turn call.Reply = works
+  done_turn call.Return = works
+  done_turn call.Retry = works
   done_turn call.Abandon = gives_up
-  done_turn call.Confirm = other
-  done_turn call.Part = other
-  done_turn call.Break = other
-  done_turn call.Meet = other
+  done_turn call.Confirm = works
+  done_turn call.Part = works
+  done_turn call.Break = breaks
+  done_turn call.Meet = meets
 
-  -- a poll that answered ARRIVED: of the two calls that poll, only a return brings a reply
-  abbrev pub arrived_turn : Call → Turn T
-  arrived_turn (call.Request start count) = other
-  arrived_turn call.Send = other
-  arrived_turn call.Carry = other
-  arrived_turn call.Tell = other
-  arrived_turn call.Reply = other
-  arrived_turn call.Return = replied
-  arrived_turn call.Retry = other
-  arrived_turn call.Abandon = other
-  arrived_turn call.Confirm = other
-  arrived_turn call.Part = other
-  arrived_turn call.Break = other
-  arrived_turn call.Meet = other
+  -- a call that polled: of the two that do, a carry polls K and a return polls L
+  abbrev pub polled_turn : Call → Heard → Turn T
+  polled_turn call Still = nothing
+  polled_turn call.Return Arrived = replied
+  polled_turn call.Return Lost = loses a_reply
+  polled_turn call Arrived = works
+  polled_turn call Lost = loses a_frame
 
   -- a call with its answer
   abbrev pub turn : Call → Result (Answer T) LinkRefusal → Turn T
   turn call (Ok Done) = done_turn call
-  turn call (Ok (Polled Still)) = other
-  turn call (Ok (Polled Arrived)) = arrived_turn call
-  turn call (Ok (Polled Lost)) = loses
-  turn call (Ok (Told mark load)) = tells mark load
+  turn call (Ok (Polled heard)) = polled_turn call heard
+  turn call (Ok (Told position load)) = tells position load
   turn call (Ok (Confirmed word)) = ends word
-  turn call (Err why) = other
+  turn call (Err why) = nothing
 
   -- a history read so
   abbrev pub turns : List (Event T) → List (Turn T)
-  turns events = map (λ event. turn event.call event.answer) events
+  turns history = map (λ event. turn event.call event.answer) history

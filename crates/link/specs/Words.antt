@@ -5,8 +5,8 @@ use Rattle.link.specs.declared.calls.Call.{Call}
 use Rattle.link.specs.declared.calls.Call.TheVariants.{Request, Send, Carry, Tell, Reply, Return, Retry, Abandon, Confirm, Part, Break, Meet}
 use Rattle.link.specs.declared.words.Heard.{Heard}
 use Rattle.link.specs.declared.words.Heard.TheVariants.{Still, Arrived, Lost}
-use Rattle.link.specs.declared.words.Mark.{Mark}
-use Rattle.link.specs.declared.words.Mark.TheVariants as mark
+use Rattle.link.specs.declared.words.Position.{Position}
+use Rattle.link.specs.declared.words.Position.TheVariants as position
 use Rattle.link.specs.declared.words.Word.{Word}
 use Rattle.link.specs.declared.words.Word.TheVariants as word
 
@@ -32,10 +32,10 @@ heard_text Arrived = codes "ARRIVED"
 heard_text Lost = codes "LOST"
 
 -- a load's position in its message
-abbrev pub mark_text : Mark → List ℕ
-mark_text mark.Ok = codes "OK"
-mark_text mark.First = codes "FIRST"
-mark_text mark.Incomplete = codes "INCOMPLETE"
+abbrev pub position_text : Position → List ℕ
+position_text position.Ok = codes "OK"
+position_text position.First = codes "FIRST"
+position_text position.Incomplete = codes "INCOMPLETE"
 
 -- how a message ended
 abbrev pub word_text : Word → List ℕ

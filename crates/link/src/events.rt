@@ -1,7 +1,7 @@
 // A call and what was answered.
 use crate::calls::Call;
 use crate::refusals::LinkRefusal;
-use crate::words::{Heard, Mark, Word};
+use crate::words::{Heard, Position, Word};
 
 // What an accepted call answers.
 #[derive(Clone, Copy, Debug, PartialEq, Eq)]
@@ -10,8 +10,8 @@ pub enum Answer<T> {
     Done,
     // What became of the frame that was polled for.
     Polled(Heard),
-    // The load that the hut is told, with its mark.
-    Told(Mark, T),
+    // The load that the hut is told, with its position.
+    Told(Position, T),
     // How the message ended.
     Confirmed(Word),
 }

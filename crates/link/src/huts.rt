@@ -1,13 +1,14 @@
 // The hut's end: it holds a frame, tells its load, and replies.
 ghost use Rattle.std.specs.Prelude.{◌≡◌};
 ghost use Rattle.loads.specs.declared.frames.Frame.{Frame};
-ghost use Rattle.channel.specs.Rows.{Row};
+ghost use Rattle.channel.specs.Rows.{Row as RowLeads};
+ghost use Rattle.link.specs.Changes.{answer_of, after_of, offers};
 ghost use Rattle.link.specs.States.{HutState, hut_start};
 ghost use Rattle.link.specs.Huts as hut;
 
 use crate::places::{HutEvent, HutPlace};
 use crate::refusals::LinkRefusal;
-use crate::words::Mark;
+use crate::words::Position;
 use channel::Channel;
 use loads::{EmptyLoad, Frame};
 use std::marker::Model;
@@ -32,19 +33,27 @@ pub struct Hut<T> {
 impl<T> Model for Hut<T> {
     ghost Value = { HutState T };
 
-    ghost view = { λ h. record { place = h.place; fresh = h.fresh; strict = h.strict; timer = h.timer; quiet = h.quiet; expected = h.expected; held = h.held } };
+    ghost view = { λ h. record {
+      place = h.place;
+      fresh = h.fresh;
+      strict = h.strict;
+      timer = h.timer;
+      quiet = h.quiet;
+      expected = h.expected;
+      held = h.held;
+    } };
 }
 
-// The mark of the load in a frame.
-fn mark_of<T>(frame: &Frame<T>) -> Mark
-    ensures answer { result ≡ hut.mark_of frame.now }
+// The position of a frame's load in its message.
+fn position_of<T>(frame: &Frame<T>) -> Position
+    ensures answer { result ≡ hut.position_of frame.now }
 {
     if frame.last {
-        Mark::Ok
+        Position::Ok
     } else if frame.first {
-        Mark::First
+        Position::First
     } else {
-        Mark::Incomplete
+        Position::Incomplete
     }
 }
 
@@ -78,7 +87,7 @@ impl<T: Copy> Hut<T> {
 
     // Where an event leads, if it is due.
     fn next_place(&self, event: HutEvent) -> Result<HutPlace, LinkRefusal>
-        ensures answer { result ≡ hut.next_place event self.now }
+        ensures answer { result ≡ hut.next_place self.now.place event self.now }
     {
         match (self.place, event) {
             (HutPlace::AwaitsFrame, HutEvent::Arrive) => Ok(HutPlace::ToTell),
@@ -93,7 +102,7 @@ impl<T: Copy> Hut<T> {
 
     // A frame arrives. An end that awaits none lets it go.
     pub fn carry(&mut self, frame: &Frame<T>)
-        ensures after { self.new ≡ hut.carried self.old frame.now }
+        ensures after { self.new ≡ hut.arrived self.old frame.now }
     {
         let Ok(place) = self.next_place(HutEvent::Arrive) else {
             return;
@@ -107,10 +116,10 @@ impl<T: Copy> Hut<T> {
         self.held = Some(*frame);
     }
 
-    // Tells the load that is held, with its mark.
-    pub fn tell(&mut self) -> Result<(Mark, T), LinkRefusal>
-        ensures answer { result ≡ (hut.tell self.old).0 }
-        ensures after { self.new ≡ (hut.tell self.old).1 }
+    // Tells the load that is held, with its position.
+    pub fn tell(&mut self) -> Result<(Position, T), LinkRefusal>
+        ensures answer { result ≡ answer_of (hut.tell self.old) }
+        ensures after { self.new ≡ after_of self.old (hut.tell self.old) }
     {
         let place = self.next_place(HutEvent::Tell)?;
         let frame = self.held.ok_or(LinkRefusal::NotDue)?;
@@ -118,15 +127,17 @@ impl<T: Copy> Hut<T> {
         self.fresh = frame.last;
         self.strict = true;
         self.expected = !frame.toggle;
-        Ok((mark_of(&frame), frame.load))
+        Ok((position_of(&frame), frame.load))
     }
 
     // Puts a reply to the frame that is held into the channel.
     pub fn reply<L: Channel<EmptyLoad>>(&mut self, channel: &mut L) -> Result<(), LinkRefusal>
-        ensures answer { result ≡ (hut.reply self.old (L.waiting channel.old)).0 }
-        ensures after { self.new ≡ (hut.reply self.old (L.waiting channel.old)).1 }
-        ensures waiting { L.waiting channel.new ≡ (hut.reply self.old (L.waiting channel.old)).2 }
-        ensures puts { Row L.Channel channel.old (hut.reply_puts self.old (L.waiting channel.old)) channel.new }
+        ensures answer { result ≡ (offers self.old (L.waiting channel.old) (hut.reply self.old)).answer }
+        ensures after { self.new ≡ (offers self.old (L.waiting channel.old) (hut.reply self.old)).after }
+        ensures waiting { L.waiting channel.new
+            ≡ (offers self.old (L.waiting channel.old) (hut.reply self.old)).waiting }
+        ensures puts { let replied = offers self.old (L.waiting channel.old) (hut.reply self.old) in
+            RowLeads L.Channel channel.old replied.puts channel.new }
     {
         let place = self.next_place(HutEvent::Reply)?;
         let frame = self.held.ok_or(LinkRefusal::NotDue)?;
@@ -155,8 +166,8 @@ impl<T: Copy> Hut<T> {
 
     // Tells that the message was broken off.
     pub fn tell_break(&mut self) -> Result<(), LinkRefusal>
-        ensures answer { result ≡ (hut.tell_break self.old).0 }
-        ensures after { self.new ≡ (hut.tell_break self.old).1 }
+        ensures answer { result ≡ answer_of (hut.tell_break self.old) }
+        ensures after { self.new ≡ after_of self.old (hut.tell_break self.old) }
     {
         self.place = self.next_place(HutEvent::Break)?;
         self.fresh = true;
@@ -166,8 +177,8 @@ impl<T: Copy> Hut<T> {
 
     // Is ready for the next message.
     pub fn meet(&mut self) -> Result<(), LinkRefusal>
-        ensures answer { result ≡ (hut.meet self.old).0 }
-        ensures after { self.new ≡ (hut.meet self.old).1 }
+        ensures answer { result ≡ answer_of (hut.meet self.old) }
+        ensures after { self.new ≡ after_of self.old (hut.meet self.old) }
     {
         self.place = self.next_place(HutEvent::Meet)?;
         self.quiet = false;

@@ -23,4 +23,4 @@ pub use links::Link;
 pub use refusals::LinkRefusal;
 pub use senders::Sender;
 pub use timers::{MOST_REPEATS, TimerRefusal, timers_fit};
-pub use words::{Heard, Mark, Word};
+pub use words::{Heard, Position, Word};

@@ -4,21 +4,22 @@ ghost use Rattle.std.specs.Option.{ok_or};
 ghost use Rattle.link.specs.declared.refusals.LinkRefusal.TheVariants.{NotJoined};
 ghost use Rattle.loads.specs.declared.empties.EmptyLoad.{EmptyLoad};
 ghost use Rattle.link.specs.States.{LinkParts, plain, sender_start, hut_start};
-ghost use Rattle.channel.specs.Rows.{Row};
-ghost use Rattle.link.specs.Doings.{send_does, carry_does, reply_does, return_does};
-ghost use Rattle.link.specs.Rules as rule;
+ghost use Rattle.std.specs.Result.{result_unwrap_or};
+ghost use Rattle.link.specs.Calls as rule;
+ghost use Rattle.link.specs.Calls.{event_of};
 ghost use Rattle.link.specs.declared.events.Event.{Event};
-ghost use Rattle.link.specs.Histories.{Reached, Step};
+ghost use Rattle.link.specs.declared.words.Heard.TheVariants.{Still};
+ghost use Rattle.link.specs.Histories.{HistoryLeads};
+ghost use Rattle.link.specs.Runs.{Steps};
 ghost use Rattle.link.specs.declared.calls.Call.TheVariants as call;
 ghost use Rattle.link.specs.declared.events.Answer.TheVariants.{Done, Polled, Told, Confirmed};
-ghost use Rattle.link.specs.Truths.{outcome_of};
-ghost use Rattle.link.specs.Turns.{turns};
+ghost use Rattle.link.specs.Laws.{outcome_of};
 
 use crate::huts::Hut;
 use crate::refusals::LinkRefusal;
 use crate::senders::Sender;
 use crate::timers::MOST_REPEATS;
-use crate::words::{Heard, Mark, Word};
+use crate::words::{Heard, Position, Word};
 use channel::{Channel, Poll};
 use loads::{Book, EmptyLoad, Load};
 use std::marker::Model;
@@ -41,13 +42,30 @@ pub struct Link<T, K, L> {
 impl<T, K, L> Model for Link<T, K, L> {
     ghost Value = { LinkParts T K L };
 
-    ghost view = { λ link. record { sender = link.sender; hut = link.hut; told = link.told; word = link.word; repeats = link.repeats; to_hut = link.to_hut; back = link.back } };
+    ghost view = { λ link. record {
+      sender = link.sender;
+      hut = link.hut;
+      told = link.told;
+      word = link.word;
+      repeats = link.repeats;
+      to_hut = link.to_hut;
+      back = link.back;
+    } };
 }
 
 impl<T: Load, K: Channel<T>, L: Channel<EmptyLoad>> Link<T, K, L> {
     // A link over two channels, not joined.
     pub fn new(to_hut: K, back: L) -> Link<T, K, L>
-        ensures answer { result ≡ record { sender = sender_start; hut = hut_start; told = 0; word = None; repeats = None; to_hut = to_hut; back = back } }
+        ensures answer { result
+            ≡ record {
+              sender = sender_start;
+              hut = hut_start;
+              told = 0;
+              word = None;
+              repeats = None;
+              to_hut = to_hut;
+              back = back;
+            } }
     {
         Link {
             sender: Sender::new(),
@@ -69,10 +87,12 @@ impl<T: Load, K: Channel<T>, L: Channel<EmptyLoad>> Link<T, K, L> {
 
     // Starts the two ends, with the repeats, if both channels are empty.
     pub fn join(&mut self, repeats: u8) -> Result<(), LinkRefusal>
-        ensures answer { result ≡ (rule.join repeats (plain K.Channel L.Channel self.old)).0 }
-        ensures after { plain K.Channel L.Channel self.new ≡ (rule.join repeats (plain K.Channel L.Channel self.old)).1 }
+        ensures answer { result ≡ (rule.join repeats (plain K.Channel L.Channel self.old)).answer }
+        ensures after { plain K.Channel L.Channel self.new
+            ≡ (rule.join repeats (plain K.Channel L.Channel self.old)).after }
         ensures channels { (self.new.to_hut ≡ self.old.to_hut) × (self.new.back ≡ self.old.back) }
-        ensures law { IsOk result → (book : List T) → Reached book repeats [] (plain K.Channel L.Channel self.new) }
+        ensures law { IsOk result →
+            (book : List T) → HistoryLeads book repeats [] (plain K.Channel L.Channel self.new) }
     {
         if self.repeats.is_some() {
             return Err(LinkRefusal::AlreadyJoined);
@@ -100,10 +120,11 @@ impl<T: Load, K: Channel<T>, L: Channel<EmptyLoad>> Link<T, K, L> {
 
     // Opens a message of `count` loads of the book from `start` on.
     pub fn request(&mut self, book: &Book<T>, start: u16, count: u16) -> Result<(), LinkRefusal>
-        ensures answer { result ≡ (rule.request book.now start count (plain K.Channel L.Channel self.old)).0 }
-        ensures after { plain K.Channel L.Channel self.new ≡ (rule.request book.now start count (plain K.Channel L.Channel self.old)).1 }
-        ensures channels { (self.new.to_hut ≡ self.old.to_hut) × (self.new.back ≡ self.old.back) }
-        ensures step { Step book.now (plain K.Channel L.Channel self.old) (rule.event_of (call.Request start count) (λ _. Done) result) (plain K.Channel L.Channel self.new) }
+        ensures answer { result ≡ (rule.request book.now start count (plain K.Channel L.Channel self.old)).answer }
+        ensures after { plain K.Channel L.Channel self.new
+            ≡ (rule.request book.now start count (plain K.Channel L.Channel self.old)).after }
+        ensures step { Steps K.Channel L.Channel book.now self.old (event_of (call.Request start count) (λ _. Done) result)
+            self.new }
     {
         self.joined()?;
         self.sender.request(book.len(), start, count)?;
@@ -113,10 +134,11 @@ impl<T: Load, K: Channel<T>, L: Channel<EmptyLoad>> Link<T, K, L> {
 
     // Puts the next load of the book into the channel to the hut.
     pub fn send(&mut self, book: &Book<T>) -> Result<(), LinkRefusal>
-        ensures answer { result ≡ (rule.send book.now (plain K.Channel L.Channel self.old)).0 }
-        ensures after { plain K.Channel L.Channel self.new ≡ (rule.send book.now (plain K.Channel L.Channel self.old)).1 }
-        ensures channels { Row K.Channel self.old.to_hut (send_does book.now (plain K.Channel L.Channel self.old)) self.new.to_hut × (self.new.back ≡ self.old.back) }
-        ensures step { Step book.now (plain K.Channel L.Channel self.old) (rule.event_of call.Send (λ _. Done) result) (plain K.Channel L.Channel self.new) }
+        ensures answer { result ≡ (rule.send book.now (plain K.Channel L.Channel self.old)).answer }
+        ensures after { plain K.Channel L.Channel self.new
+            ≡ (rule.send book.now (plain K.Channel L.Channel self.old)).after }
+        ensures step { Steps K.Channel L.Channel book.now self.old (event_of call.Send (λ _. Done) result)
+            self.new }
     {
         self.joined()?;
         self.sender.send(book, &mut self.to_hut)
@@ -124,10 +146,11 @@ impl<T: Load, K: Channel<T>, L: Channel<EmptyLoad>> Link<T, K, L> {
 
     // Polls the channel to the hut. Open: what becomes of a frame that waits there.
     pub fn carry(&mut self) -> Result<Heard, LinkRefusal>
-        ensures open_answer { result ≡ (rule.carry (rule.heard_in result) (plain K.Channel L.Channel self.old)).0 }
-        ensures after { plain K.Channel L.Channel self.new ≡ (rule.carry (rule.heard_in result) (plain K.Channel L.Channel self.old)).1 }
-        ensures channels { Row K.Channel self.old.to_hut (carry_does (rule.heard_in result) (plain K.Channel L.Channel self.old)) self.new.to_hut × (self.new.back ≡ self.old.back) }
-        ensures step { (book : List T) → Step book (plain K.Channel L.Channel self.old) (rule.event_of call.Carry Polled result) (plain K.Channel L.Channel self.new) }
+        ensures open_answer { result ≡ (rule.carry (result_unwrap_or result Still) (plain K.Channel L.Channel self.old)).answer }
+        ensures after { plain K.Channel L.Channel self.new
+            ≡ (rule.carry (result_unwrap_or result Still) (plain K.Channel L.Channel self.old)).after }
+        ensures step { (book : List T) →
+            Steps K.Channel L.Channel book self.old (event_of call.Carry Polled result) self.new }
     {
         self.joined()?;
         match self.to_hut.poll() {
@@ -144,12 +167,13 @@ impl<T: Load, K: Channel<T>, L: Channel<EmptyLoad>> Link<T, K, L> {
         }
     }
 
-    // The hut tells the load that it holds, with its mark.
-    pub fn tell(&mut self) -> Result<(Mark, T), LinkRefusal>
-        ensures answer { result ≡ (rule.tell (plain K.Channel L.Channel self.old)).0 }
-        ensures after { plain K.Channel L.Channel self.new ≡ (rule.tell (plain K.Channel L.Channel self.old)).1 }
-        ensures channels { (self.new.to_hut ≡ self.old.to_hut) × (self.new.back ≡ self.old.back) }
-        ensures step { (book : List T) → Step book (plain K.Channel L.Channel self.old) (rule.event_of call.Tell (λ told. Told told.0 told.1) result) (plain K.Channel L.Channel self.new) }
+    // The hut tells the load that it holds, with its position.
+    pub fn tell(&mut self) -> Result<(Position, T), LinkRefusal>
+        ensures answer { result ≡ (rule.tell (plain K.Channel L.Channel self.old)).answer }
+        ensures after { plain K.Channel L.Channel self.new
+            ≡ (rule.tell (plain K.Channel L.Channel self.old)).after }
+        ensures step { (book : List T) →
+            Steps K.Channel L.Channel book self.old (event_of call.Tell (λ told. Told told.0 told.1) result) self.new }
     {
         self.joined()?;
         let told = self.hut.tell()?;
@@ -159,10 +183,11 @@ impl<T: Load, K: Channel<T>, L: Channel<EmptyLoad>> Link<T, K, L> {
 
     // The hut puts a reply into the channel back.
     pub fn reply(&mut self) -> Result<(), LinkRefusal>
-        ensures answer { result ≡ (rule.reply (plain K.Channel L.Channel self.old)).0 }
-        ensures after { plain K.Channel L.Channel self.new ≡ (rule.reply (plain K.Channel L.Channel self.old)).1 }
-        ensures channels { (self.new.to_hut ≡ self.old.to_hut) × Row L.Channel self.old.back (reply_does (plain K.Channel L.Channel self.old)) self.new.back }
-        ensures step { (book : List T) → Step book (plain K.Channel L.Channel self.old) (rule.event_of call.Reply (λ _. Done) result) (plain K.Channel L.Channel self.new) }
+        ensures answer { result ≡ (rule.reply (plain K.Channel L.Channel self.old)).answer }
+        ensures after { plain K.Channel L.Channel self.new
+            ≡ (rule.reply (plain K.Channel L.Channel self.old)).after }
+        ensures step { (book : List T) →
+            Steps K.Channel L.Channel book self.old (event_of call.Reply (λ _. Done) result) self.new }
     {
         self.joined()?;
         self.hut.reply(&mut self.back)
@@ -170,10 +195,11 @@ impl<T: Load, K: Channel<T>, L: Channel<EmptyLoad>> Link<T, K, L> {
 
     // Polls the channel back. Open: what becomes of a reply that waits there.
     pub fn return_reply(&mut self) -> Result<Heard, LinkRefusal>
-        ensures open_answer { result ≡ (rule.return (rule.heard_in result) (plain K.Channel L.Channel self.old)).0 }
-        ensures after { plain K.Channel L.Channel self.new ≡ (rule.return (rule.heard_in result) (plain K.Channel L.Channel self.old)).1 }
-        ensures channels { (self.new.to_hut ≡ self.old.to_hut) × Row L.Channel self.old.back (return_does (rule.heard_in result) (plain K.Channel L.Channel self.old)) self.new.back }
-        ensures step { (book : List T) → Step book (plain K.Channel L.Channel self.old) (rule.event_of call.Return Polled result) (plain K.Channel L.Channel self.new) }
+        ensures open_answer { result ≡ (rule.return (result_unwrap_or result Still) (plain K.Channel L.Channel self.old)).answer }
+        ensures after { plain K.Channel L.Channel self.new
+            ≡ (rule.return (result_unwrap_or result Still) (plain K.Channel L.Channel self.old)).after }
+        ensures step { (book : List T) →
+            Steps K.Channel L.Channel book self.old (event_of call.Return Polled result) self.new }
     {
         self.joined()?;
         match self.back.poll() {
@@ -192,10 +218,11 @@ impl<T: Load, K: Channel<T>, L: Channel<EmptyLoad>> Link<T, K, L> {
 
     // After a loss: the sender may send the load once more, or has to confirm.
     pub fn retry(&mut self) -> Result<(), LinkRefusal>
-        ensures answer { result ≡ (rule.retry (plain K.Channel L.Channel self.old)).0 }
-        ensures after { plain K.Channel L.Channel self.new ≡ (rule.retry (plain K.Channel L.Channel self.old)).1 }
-        ensures channels { (self.new.to_hut ≡ self.old.to_hut) × (self.new.back ≡ self.old.back) }
-        ensures step { (book : List T) → Step book (plain K.Channel L.Channel self.old) (rule.event_of call.Retry (λ _. Done) result) (plain K.Channel L.Channel self.new) }
+        ensures answer { result ≡ (rule.retry (plain K.Channel L.Channel self.old)).answer }
+        ensures after { plain K.Channel L.Channel self.new
+            ≡ (rule.retry (plain K.Channel L.Channel self.old)).after }
+        ensures step { (book : List T) →
+            Steps K.Channel L.Channel book self.old (event_of call.Retry (λ _. Done) result) self.new }
     {
         let repeats = self.joined()?;
         self.sender.retry(repeats)
@@ -203,10 +230,11 @@ impl<T: Load, K: Channel<T>, L: Channel<EmptyLoad>> Link<T, K, L> {
 
     // The sender gives up the message.
     pub fn abandon(&mut self) -> Result<(), LinkRefusal>
-        ensures answer { result ≡ (rule.abandon (plain K.Channel L.Channel self.old)).0 }
-        ensures after { plain K.Channel L.Channel self.new ≡ (rule.abandon (plain K.Channel L.Channel self.old)).1 }
-        ensures channels { (self.new.to_hut ≡ self.old.to_hut) × (self.new.back ≡ self.old.back) }
-        ensures step { (book : List T) → Step book (plain K.Channel L.Channel self.old) (rule.event_of call.Abandon (λ _. Done) result) (plain K.Channel L.Channel self.new) }
+        ensures answer { result ≡ (rule.abandon (plain K.Channel L.Channel self.old)).answer }
+        ensures after { plain K.Channel L.Channel self.new
+            ≡ (rule.abandon (plain K.Channel L.Channel self.old)).after }
+        ensures step { (book : List T) →
+            Steps K.Channel L.Channel book self.old (event_of call.Abandon (λ _. Done) result) self.new }
     {
         self.joined()?;
         self.sender.abandon()
@@ -214,10 +242,11 @@ impl<T: Load, K: Channel<T>, L: Channel<EmptyLoad>> Link<T, K, L> {
 
     // The message ends with a word.
     pub fn confirm(&mut self) -> Result<Word, LinkRefusal>
-        ensures answer { result ≡ (rule.confirm (plain K.Channel L.Channel self.old)).0 }
-        ensures after { plain K.Channel L.Channel self.new ≡ (rule.confirm (plain K.Channel L.Channel self.old)).1 }
-        ensures channels { (self.new.to_hut ≡ self.old.to_hut) × (self.new.back ≡ self.old.back) }
-        ensures step { (book : List T) → Step book (plain K.Channel L.Channel self.old) (rule.event_of call.Confirm Confirmed result) (plain K.Channel L.Channel self.new) }
+        ensures answer { result ≡ (rule.confirm (plain K.Channel L.Channel self.old)).answer }
+        ensures after { plain K.Channel L.Channel self.new
+            ≡ (rule.confirm (plain K.Channel L.Channel self.old)).after }
+        ensures step { (book : List T) →
+            Steps K.Channel L.Channel book self.old (event_of call.Confirm Confirmed result) self.new }
     {
         self.joined()?;
         let word = self.sender.confirm()?;
@@ -227,10 +256,11 @@ impl<T: Load, K: Channel<T>, L: Channel<EmptyLoad>> Link<T, K, L> {
 
     // After another word than OK: the next message begins anew, and a message that was told in part is to be broken.
     pub fn part(&mut self) -> Result<(), LinkRefusal>
-        ensures answer { result ≡ (rule.part (plain K.Channel L.Channel self.old)).0 }
-        ensures after { plain K.Channel L.Channel self.new ≡ (rule.part (plain K.Channel L.Channel self.old)).1 }
-        ensures channels { (self.new.to_hut ≡ self.old.to_hut) × (self.new.back ≡ self.old.back) }
-        ensures step { (book : List T) → Step book (plain K.Channel L.Channel self.old) (rule.event_of call.Part (λ _. Done) result) (plain K.Channel L.Channel self.new) }
+        ensures answer { result ≡ (rule.part (plain K.Channel L.Channel self.old)).answer }
+        ensures after { plain K.Channel L.Channel self.new
+            ≡ (rule.part (plain K.Channel L.Channel self.old)).after }
+        ensures step { (book : List T) →
+            Steps K.Channel L.Channel book self.old (event_of call.Part (λ _. Done) result) self.new }
     {
         self.joined()?;
         self.sender.part()?;
@@ -240,10 +270,11 @@ impl<T: Load, K: Channel<T>, L: Channel<EmptyLoad>> Link<T, K, L> {
 
     // The hut tells that a message was broken off.
     pub fn tell_break(&mut self) -> Result<(), LinkRefusal>
-        ensures answer { result ≡ (rule.break (plain K.Channel L.Channel self.old)).0 }
-        ensures after { plain K.Channel L.Channel self.new ≡ (rule.break (plain K.Channel L.Channel self.old)).1 }
-        ensures channels { (self.new.to_hut ≡ self.old.to_hut) × (self.new.back ≡ self.old.back) }
-        ensures step { (book : List T) → Step book (plain K.Channel L.Channel self.old) (rule.event_of call.Break (λ _. Done) result) (plain K.Channel L.Channel self.new) }
+        ensures answer { result ≡ (rule.break (plain K.Channel L.Channel self.old)).answer }
+        ensures after { plain K.Channel L.Channel self.new
+            ≡ (rule.break (plain K.Channel L.Channel self.old)).after }
+        ensures step { (book : List T) →
+            Steps K.Channel L.Channel book self.old (event_of call.Break (λ _. Done) result) self.new }
     {
         self.joined()?;
         self.hut.tell_break()
@@ -251,10 +282,11 @@ impl<T: Load, K: Channel<T>, L: Channel<EmptyLoad>> Link<T, K, L> {
 
     // After a part: the hut is ready, and the sender may send.
     pub fn meet(&mut self) -> Result<(), LinkRefusal>
-        ensures answer { result ≡ (rule.meet (plain K.Channel L.Channel self.old)).0 }
-        ensures after { plain K.Channel L.Channel self.new ≡ (rule.meet (plain K.Channel L.Channel self.old)).1 }
-        ensures channels { (self.new.to_hut ≡ self.old.to_hut) × (self.new.back ≡ self.old.back) }
-        ensures step { (book : List T) → Step book (plain K.Channel L.Channel self.old) (rule.event_of call.Meet (λ _. Done) result) (plain K.Channel L.Channel self.new) }
+        ensures answer { result ≡ (rule.meet (plain K.Channel L.Channel self.old)).answer }
+        ensures after { plain K.Channel L.Channel self.new
+            ≡ (rule.meet (plain K.Channel L.Channel self.old)).after }
+        ensures step { (book : List T) →
+            Steps K.Channel L.Channel book self.old (event_of call.Meet (λ _. Done) result) self.new }
     {
         self.joined()?;
         self.hut.meet()?;
@@ -265,7 +297,9 @@ impl<T: Load, K: Channel<T>, L: Channel<EmptyLoad>> Link<T, K, L> {
     // The word of the last message that was confirmed, and how many of its loads the hut was told.
     pub fn outcome(&self) -> Result<(Word, u32), LinkRefusal>
         ensures answer { result ≡ rule.outcome (plain K.Channel L.Channel self.now) }
-        ensures law { (book : List T) (repeats : ℕ) (history : List (Event T)) → Reached book repeats history (plain K.Channel L.Channel self.now) → result ≡ outcome_of (turns history) }
+        ensures law { (book : List T) (repeats : ℕ) (history : List (Event T)) →
+            HistoryLeads book repeats history (plain K.Channel L.Channel self.now) →
+            result ≡ outcome_of history }
     {
         self.joined()?;
         if self.sender.is_open() {

@@ -2,7 +2,7 @@
 ghost use Rattle.std.specs.Prelude.{◌≡◌, length, map, take};
 ghost use Rattle.link.specs.declared.events.Event.{Event};
 ghost use Rattle.link.specs.States.{plain};
-ghost use Rattle.link.specs.Histories.{Lawful};
+ghost use Rattle.link.specs.Laws.{StaysLawful};
 ghost use Rattle.link.specs.Runs.{Runs, run_answer, run_count, written, behind, call_of};
 
 use crate::calls::Call;
@@ -22,10 +22,12 @@ impl<T: Load, K: Channel<T>, L: Channel<EmptyLoad>> Link<T, K, L> {
         log: &mut [Event<T>],
     ) -> Result<(), LinkRefusal>
         ensures answer { result ≡ run_answer (length calls.now) (length log.old) }
-        ensures called { map call_of (written calls.now log.old log.new) ≡ take (run_count (length calls.now) (length log.old)) calls.now }
+        ensures called { map call_of (written calls.now log.old log.new)
+            ≡ take (run_count (length calls.now) (length log.old)) calls.now }
         ensures later { behind calls.now log.old log.new ≡ behind calls.now log.old log.old }
         ensures open_answers { Runs K.Channel L.Channel book.now self.old (written calls.now log.old log.new) self.new }
-        ensures law { Lawful book.now (plain K.Channel L.Channel self.old) (written calls.now log.old log.new) (plain K.Channel L.Channel self.new) }
+        ensures law { StaysLawful book.now (plain K.Channel L.Channel self.old)
+            (written calls.now log.old log.new) (plain K.Channel L.Channel self.new) }
     {
         if log.len() < calls.len() {
             return Err(LinkRefusal::ShortLog);

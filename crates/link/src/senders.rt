@@ -1,6 +1,8 @@
 // The sender: it sends the loads of a message one by one, each again after a loss, up to the repeats.
 ghost use Rattle.std.specs.Prelude.{◌≡◌, ◌-◌, drop, option_map};
-ghost use Rattle.channel.specs.Rows.{Row};
+ghost use Rattle.std.specs.List.{range_with_len};
+ghost use Rattle.channel.specs.Rows.{Row as RowLeads};
+ghost use Rattle.link.specs.Changes.{answer_of, after_of, offers};
 ghost use Rattle.link.specs.States.{SenderState, sender_start};
 ghost use Rattle.link.specs.Senders as sender;
 
@@ -38,7 +40,16 @@ pub struct Sender {
 impl Model for Sender {
     ghost Value = { SenderState };
 
-    ghost view = { λ s. record { place = s.place; «open» = s.open; first = s.first; armed = s.armed; lost = s.lost; toggle = s.toggle; rest = sender.places s.rest.start (s.rest.end - s.rest.start); tries = s.tries } };
+    ghost view = { λ s. record {
+      place = s.place;
+      «open» = s.open;
+      first = s.first;
+      armed = s.armed;
+      lost = s.lost;
+      toggle = s.toggle;
+      rest = range_with_len s.rest.start (s.rest.end - s.rest.start);
+      tries = s.tries;
+    } };
 }
 
 impl Sender {
@@ -66,24 +77,24 @@ impl Sender {
     }
 
     // Whether exactly one load is not replied to.
-    #[tactic(auto, using(crate::proofs::RestLaws::lone_places))]
+    #[tactic(auto, using(crate::proofs::RestLaws::lone_range))]
     fn is_lone(&self) -> bool
-        ensures answer { result ≡ sender.lone self.now.rest }
+        ensures answer { result ≡ sender.is_lone self.now.rest }
     {
         self.rest.len() == 1
     }
 
     // Whether no load is left to reply to.
-    #[tactic(auto, using(crate::proofs::RestLaws::none_places))]
+    #[tactic(auto, using(crate::proofs::RestLaws::done_range))]
     fn is_done(&self) -> bool
-        ensures answer { result ≡ sender.none self.now.rest }
+        ensures answer { result ≡ sender.is_done self.now.rest }
     {
         self.rest.is_empty()
     }
 
     // Where an event leads, if it is due.
     fn next_place(&self, event: SenderEvent) -> Result<SenderPlace, LinkRefusal>
-        ensures answer { result ≡ sender.next_place event self.now }
+        ensures answer { result ≡ sender.next_place self.now.place event self.now }
     {
         match (self.place, event) {
             (SenderPlace::ToSend, SenderEvent::Send) if self.open => Ok(SenderPlace::AwaitsReply),
@@ -100,8 +111,8 @@ impl Sender {
 
     // Opens a message of `count` places from `start` on, in a book of so many loads.
     pub fn request(&mut self, loads: usize, start: u16, count: u16) -> Result<(), LinkRefusal>
-        ensures answer { result ≡ (sender.request loads start count self.old).0 }
-        ensures after { self.new ≡ (sender.request loads start count self.old).1 }
+        ensures answer { result ≡ answer_of (sender.request loads start count self.old) }
+        ensures after { self.new ≡ after_of self.old (sender.request loads start count self.old) }
     {
         if self.open {
             return Err(LinkRefusal::MessageOpen);
@@ -120,8 +131,8 @@ impl Sender {
 
     // Gives up the message.
     pub fn abandon(&mut self) -> Result<(), LinkRefusal>
-        ensures answer { result ≡ (sender.abandon self.old).0 }
-        ensures after { self.new ≡ (sender.abandon self.old).1 }
+        ensures answer { result ≡ answer_of (sender.abandon self.old) }
+        ensures after { self.new ≡ after_of self.old (sender.abandon self.old) }
     {
         self.place = self.next_place(SenderEvent::Abandon)?;
         Ok(())
@@ -129,8 +140,8 @@ impl Sender {
 
     // After a loss: may send once more, or has to confirm where the repeats are used up.
     pub fn retry(&mut self, repeats: u8) -> Result<(), LinkRefusal>
-        ensures answer { result ≡ (sender.retry repeats self.old).0 }
-        ensures after { self.new ≡ (sender.retry repeats self.old).1 }
+        ensures answer { result ≡ answer_of (sender.retry repeats self.old) }
+        ensures after { self.new ≡ after_of self.old (sender.retry repeats self.old) }
     {
         let place = self.next_place(SenderEvent::Retry)?;
         self.place = if self.tries <= u32::from(repeats) {
@@ -152,8 +163,8 @@ impl Sender {
 
     // After another word than OK: the next message begins anew.
     pub fn part(&mut self) -> Result<(), LinkRefusal>
-        ensures answer { result ≡ (sender.part self.old).0 }
-        ensures after { self.new ≡ (sender.part self.old).1 }
+        ensures answer { result ≡ answer_of (sender.part self.old) }
+        ensures after { self.new ≡ after_of self.old (sender.part self.old) }
     {
         self.place = self.next_place(SenderEvent::Part)?;
         self.first = true;
@@ -170,7 +181,8 @@ impl Sender {
 
     // The next load of the book, in the frame that a send puts.
     fn frame<T: Load>(&self, book: &Book<T>) -> Option<Frame<T>>
-        ensures answer { result ≡ option_map (sender.frame_of self.now) (sender.first_load book.now self.now.rest) }
+        ensures answer { result
+            ≡ option_map (sender.frame_of self.now) (sender.first_load book.now self.now.rest) }
     {
         if self.is_done() {
             return None;
@@ -190,10 +202,14 @@ impl Sender {
         book: &Book<T>,
         channel: &mut K,
     ) -> Result<(), LinkRefusal>
-        ensures answer { result ≡ (sender.send book.now self.old (K.waiting channel.old)).0 }
-        ensures after { self.new ≡ (sender.send book.now self.old (K.waiting channel.old)).1 }
-        ensures waiting { K.waiting channel.new ≡ (sender.send book.now self.old (K.waiting channel.old)).2 }
-        ensures puts { Row K.Channel channel.old (sender.send_puts book.now self.old (K.waiting channel.old)) channel.new }
+        ensures answer { result
+            ≡ (offers self.old (K.waiting channel.old) (sender.send book.now self.old)).answer }
+        ensures after { self.new
+            ≡ (offers self.old (K.waiting channel.old) (sender.send book.now self.old)).after }
+        ensures waiting { K.waiting channel.new
+            ≡ (offers self.old (K.waiting channel.old) (sender.send book.now self.old)).waiting }
+        ensures puts { let sent = offers self.old (K.waiting channel.old) (sender.send book.now self.old) in
+            RowLeads K.Channel channel.old sent.puts channel.new }
     {
         let place = self.next_place(SenderEvent::Send)?;
         let frame = self.frame(book).ok_or(LinkRefusal::NoLoad)?;
@@ -243,8 +259,8 @@ impl Sender {
 
     // Ends the message, and says how.
     pub fn confirm(&mut self) -> Result<Word, LinkRefusal>
-        ensures answer { result ≡ (sender.confirm self.old).0 }
-        ensures after { self.new ≡ (sender.confirm self.old).1 }
+        ensures answer { result ≡ answer_of (sender.confirm self.old) }
+        ensures after { self.new ≡ after_of self.old (sender.confirm self.old) }
     {
         let place = self.next_place(SenderEvent::Confirm)?;
         let word = self.word();

@@ -1,8 +1,8 @@
 // One call of any kind, and its answer as a log has it.
-ghost use Rattle.std.specs.Prelude.{◌≡◌, [], ◌∷◌};
+ghost use Rattle.std.specs.Prelude.{◌≡◌, [], ◌∷◌, OnErr};
 ghost use Rattle.link.specs.States.{plain};
-ghost use Rattle.link.specs.Histories.{Lawful};
-ghost use Rattle.link.specs.Runs.{Stepped};
+ghost use Rattle.link.specs.Laws.{StaysLawful};
+ghost use Rattle.link.specs.Runs.{Steps};
 
 use crate::calls::Call;
 use crate::events::{Answer, Event};
@@ -14,15 +14,16 @@ use loads::{Book, EmptyLoad, Load};
 impl<T: Load, K: Channel<T>, L: Channel<EmptyLoad>> Link<T, K, L> {
     // Makes a call of any kind. Open: what becomes of a frame that is polled for.
     fn make(&mut self, book: &Book<T>, call: Call) -> Result<Answer<T>, LinkRefusal>
-        ensures open_answer { Stepped K.Channel L.Channel book.now self.old (record { call = call; answer = result }) self.new }
+        ensures open_answer { Steps K.Channel L.Channel book.now self.old (record { call = call; answer = result })
+            self.new }
     {
         match call {
             Call::Request { start, count } => self.request(book, start, count)?,
             Call::Send => self.send(book)?,
             Call::Carry => return Ok(Answer::Polled(self.carry()?)),
             Call::Tell => {
-                let (mark, load) = self.tell()?;
-                return Ok(Answer::Told(mark, load));
+                let (position, load) = self.tell()?;
+                return Ok(Answer::Told(position, load));
             }
             Call::Reply => self.reply()?,
             Call::Return => return Ok(Answer::Polled(self.return_reply()?)),
@@ -39,8 +40,11 @@ impl<T: Load, K: Channel<T>, L: Channel<EmptyLoad>> Link<T, K, L> {
     // Makes a call of any kind, and gives it with its answer. Open: what becomes of a frame that is polled for.
     pub fn step(&mut self, book: &Book<T>, call: Call) -> Event<T>
         ensures called { result.call ≡ call }
-        ensures open_answer { Stepped K.Channel L.Channel book.now self.old result self.new }
-        ensures law { Lawful book.now (plain K.Channel L.Channel self.old) (result ∷ []) (plain K.Channel L.Channel self.new) }
+        ensures open_answer { Steps K.Channel L.Channel book.now self.old result self.new }
+        ensures refused { OnErr result.answer
+            (plain K.Channel L.Channel self.new ≡ plain K.Channel L.Channel self.old) }
+        ensures law { StaysLawful book.now (plain K.Channel L.Channel self.old) (result ∷ [])
+            (plain K.Channel L.Channel self.new) }
     {
         let answer = self.make(book, call);
         Event { call, answer }

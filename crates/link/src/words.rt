@@ -1,6 +1,6 @@
 // The words that a link gives: of a message, of a load, and of a channel.
 ghost use Rattle.std.specs.Prelude.{◌≡◌};
-ghost use Rattle.link.specs.Words.{word_text, mark_text, heard_text};
+ghost use Rattle.link.specs.Words.{word_text, position_text, heard_text};
 
 // How a message ended.
 #[derive(Clone, Copy, Debug, PartialEq, Eq)]
@@ -15,7 +15,7 @@ pub enum Word {
 
 // A load's position in its message.
 #[derive(Clone, Copy, Debug, PartialEq, Eq)]
-pub enum Mark {
+pub enum Position {
     // It is the last.
     Ok,
     // It is the first, and not the last.
@@ -48,15 +48,15 @@ impl Word {
     }
 }
 
-impl Mark {
+impl Position {
     // The printed word.
     pub fn word(&self) -> &'static str
-        ensures answer { result.now ≡ mark_text self.now }
+        ensures answer { result.now ≡ position_text self.now }
     {
         match self {
-            Mark::Ok => "OK",
-            Mark::First => "FIRST",
-            Mark::Incomplete => "INCOMPLETE",
+            Position::Ok => "OK",
+            Position::First => "FIRST",
+            Position::Incomplete => "INCOMPLETE",
         }
     }
 }

@@ -2,7 +2,7 @@ use Rattle.std.proofs.Common.{arith, rules}
 use Rattle.std.proofs.lemmas.Grind.{common_steps}
 use Rattle.std.proofs.lemmas.List.{map_push, take_more_set}
 use Rattle.link.proofs.Laws.{runs_lawful}
-use Rattle.link.proofs.RanLaws.{runs_push}
+use Rattle.link.proofs.RunLaws.{runs_push}
 use Rattle.link.proofs.links.Link.run.Goals as goal
 
 pub loop-i-preserved : goal.loop-i-preserved
