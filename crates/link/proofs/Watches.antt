@@ -1,5 +1,5 @@
 -- A history seen turn by turn, with no machine: what is still to come of a message, and what follows for its word.
-use Rattle.std.proofs.Common.{◌≡◌, ◌≢◌, ◌↔◌, ℕ, zero, suc, pred, ◌+◌, ◌<◌, ◌≤◌, Bool, true, false, ◌||◌, List, [], ◌∷◌, take, drop, map, length, Some, None, Option, refl, ap, sym, ◌∙◌, add-zero, zero-add, arith, rules, tests}
+use Rattle.std.proofs.Common.{◌≡◌, ◌≢◌, ◌↔◌, ℕ, zero, suc, pred, ◌+◌, ◌<◌, ◌≤◌, Bool, true, false, ◌||◌, List, [], ◌∷◌, take, drop, map, length, Some, None, Option, refl, ap, add-zero, zero-add, arith, rules, tests}
 use Rattle.std.specs.Prelude.{◌==◌, IfSome, IsTrue, All, filter}
 use Rattle.std.specs.List.{list_any, slice_split, onto_first}
 use Rattle.std.proofs.Math.Seq.{take-nil}
@@ -8,8 +8,8 @@ use Rattle.link.specs.declared.words.Position.{Position}
 use Rattle.link.specs.declared.words.Word.{Word}
 use Rattle.link.specs.declared.words.Word.TheVariants as word
 use Rattle.link.specs.Turns.{Loss, Turn, asks, tells, replied, loses, gives_up, ends}
-use Rattle.link.specs.Messages.{Message, up_to_word, messages, loads_of, told_in, said, abandoned, is_reply, is_loss, losses}
-use Rattle.link.specs.Laws.{positioned, WordFits, has_failed, IsTruthful}
+use Rattle.link.specs.Messages.{up_to_word, messages, loads_of, told_in, said, abandoned, is_reply, is_loss, losses}
+use Rattle.link.specs.Laws.{positioned, WordFits, IsTruthful}
 
 -- of the message that is open: what is still to be told, how many of its loads have no reply, the losses of the first of
 -- these, and whether it was abandoned

@@ -1,5 +1,5 @@
 -- Join, the twelve calls and the question for the outcome: what each comes to.
-use Rattle.std.specs.Prelude.{ℕ, ◌||◌, if◌then◌else◌, nat_lt, is_some, List, [], ◌∷◌, length, Ok, Err, Result, Some, None, Option, ok_or}
+use Rattle.std.specs.Prelude.{ℕ, ◌||◌, if◌then◌else◌, nat_lt, is_some, List, [], ◌∷◌, length, Ok, Err, Result, Some, ok_or}
 use Rattle.loads.specs.declared.empties.EmptyLoad.{EmptyLoad}
 use Rattle.channel.specs.declared.polls.Poll.{Poll}
 use Rattle.channel.specs.declared.polls.Poll.TheVariants as poll

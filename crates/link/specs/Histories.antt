@@ -1,5 +1,5 @@
 -- A history: the calls that were made on a link since it joined, with their answers, oldest first.
-use Rattle.std.specs.Prelude.{◌≡◌, ℕ, ◌≤◌, List, [], ◌∷◌, ◌++◌, Ok, Result}
+use Rattle.std.specs.Prelude.{◌≡◌, ℕ, ◌≤◌, List, [], ◌∷◌, Ok, Result}
 use Rattle.link.specs.declared.events.Answer.{Answer}
 use Rattle.link.specs.declared.events.Answer.TheVariants.{Polled}
 use Rattle.link.specs.declared.events.Event.{Event}

@@ -1,5 +1,5 @@
 -- What each call does with the sender.
-use Rattle.std.specs.Prelude.{ℕ, ◌+◌, ◌%◌, ◌^◌, Bool, true, false, not, ◌&&◌, ◌||◌, if◌then◌else◌, List, [], ◌∷◌, drop, Ok, Err, Result, Some, None, Option, ok_or, ◌==◌, nat_le, nat_lt}
+use Rattle.std.specs.Prelude.{ℕ, ◌+◌, ◌%◌, ◌^◌, Bool, true, false, not, ◌&&◌, ◌||◌, if◌then◌else◌, List, [], ◌∷◌, drop, Ok, Err, Result, None, Option, ok_or, ◌==◌, nat_le, nat_lt}
 use Rattle.std.specs.List.{slice_get, range_with_len}
 use Rattle.loads.specs.declared.frames.Frame.{Frame}
 use Rattle.link.specs.declared.places.SenderPlace.{SenderPlace}

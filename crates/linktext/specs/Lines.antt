@@ -8,7 +8,7 @@ use Rattle.link.specs.declared.events.Event.{Event}
 use Rattle.link.specs.declared.refusals.LinkRefusal.{LinkRefusal}
 use Rattle.link.specs.declared.words.Word.{Word}
 use Rattle.link.specs.Refusals.{number_of}
-use Rattle.link.specs.Words.{letter, heard_text, mark_text, word_text}
+use Rattle.link.specs.Words.{letter, heard_text, position_text, word_text}
 use Rattle.frametext.specs.Hexadecimals.{hexadecimal}
 
 -- by the load kind
@@ -17,11 +17,11 @@ module _ {T : Type 0} (kind : Ghosts T) where
   abbrev pub load_text : T → List ℕ
   load_text load = hexadecimal (kind.spelled load)
 
-  -- what an accepted call shows: the answer of a poll, the mark and the load that the hut is told, or the word
+  -- what an accepted call shows: the answer of a poll, the position and the load that the hut is told, or the word
   abbrev pub shown_text : Result (Answer T) LinkRefusal → List ℕ
   shown_text (Ok Done) = []
   shown_text (Ok (Polled heard)) = codes " " ++ heard_text heard
-  shown_text (Ok (Told mark load)) = codes " " ++ (mark_text mark ++ (codes " " ++ load_text load))
+  shown_text (Ok (Told position load)) = codes " " ++ (position_text position ++ (codes " " ++ load_text load))
   shown_text (Ok (Confirmed word)) = codes " " ++ word_text word
   shown_text (Err why) = []
 

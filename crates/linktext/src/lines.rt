@@ -34,8 +34,8 @@ fn push_shown<T: Load>(
 {
     match answer {
         Ok(Answer::Polled(heard)) => push_word(text, heard.word()),
-        Ok(Answer::Told(mark, load)) => {
-            push_word(text, mark.word())?;
+        Ok(Answer::Told(position, load)) => {
+            push_word(text, position.word())?;
             text.push(' ')?;
             push_load(text, load)
         }

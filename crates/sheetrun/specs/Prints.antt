@@ -6,9 +6,8 @@ use Rattle.loads.specs.Pieces.{pieces}
 use Rattle.loads.specs.Readings.{readings}
 use Rattle.channels.specs.declared.marks.Mark.TheVariants.{Pass}
 use Rattle.link.specs.declared.events.Event.{Event}
+use Rattle.link.specs.Laws.{IsLawful}
 use Rattle.link.specs.States.{started}
-use Rattle.link.specs.Truths.{Truthful}
-use Rattle.link.specs.Turns.{turns}
 use Rattle.linktext.specs.Lines.{call_text}
 use Rattle.sheet.specs.declared.anysheets.AnySheet.{AnySheet}
 use Rattle.sheet.specs.declared.anysheets.AnySheet.TheVariants.{Readings, Pieces}
@@ -33,8 +32,8 @@ module _ {T : Type 0} where
   events_of sheet = (calls_by_marks sheet.book sheet.calls (link_at_start sheet)).0
 
   -- the law holds of a sheet's run
-  abbrev pub TruthfulRun : SheetParts T → Type 0
-  TruthfulRun sheet = Truthful sheet.book sheet.repeats (turns (events_of sheet))
+  abbrev pub IsLawfulRun : SheetParts T → Type 0
+  IsLawfulRun sheet = IsLawful sheet.book sheet.repeats (events_of sheet)
 
 -- a text on a line
 abbrev pub line : List ℕ → List ℕ
@@ -62,8 +61,8 @@ sheet_prints octets = prints (sheet_reads octets)
 abbrev pub NeedsMemory : List ℕ → Type 0
 NeedsMemory octets = (0 < length (sheet_prints octets)) ⊎ OctetsBefore (layout_reads octets)
 
--- the law holds of what is printed: where the octets are a sheet, of its run
-abbrev pub TruthfulPrints : Result AnySheet SheetFault → Type 0
-TruthfulPrints (Ok (Readings sheet)) = TruthfulRun sheet
-TruthfulPrints (Ok (Pieces sheet)) = TruthfulRun sheet
-TruthfulPrints (Err fault) = Unit {0}
+-- where the octets are a sheet, the law holds of its run
+abbrev pub RunsLawfully : Result AnySheet SheetFault → Type 0
+RunsLawfully (Ok (Readings sheet)) = IsLawfulRun sheet
+RunsLawfully (Ok (Pieces sheet)) = IsLawfulRun sheet
+RunsLawfully (Err fault) = Unit {0}

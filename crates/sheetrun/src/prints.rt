@@ -3,7 +3,7 @@ ghost use Rattle.std.specs.Prelude.{◌≡◌, ◌+◌, ◌<◌, length, IfOk, I
 ghost use Rattle.sheet.specs.AnySheets.{sheet_reads};
 ghost use Rattle.sheet.specs.Faults.{fault_text};
 ghost use Rattle.sheet.specs.Layouts.{most_octets};
-ghost use Rattle.sheetrun.specs.Prints.{line, event_lines as lines_of, events_of, sheet_prints, NeedsMemory, TruthfulRun, TruthfulPrints};
+ghost use Rattle.sheetrun.specs.Prints.{line, event_lines as lines_of, events_of, sheet_prints, NeedsMemory, IsLawfulRun, RunsLawfully};
 
 use crate::runs::sheet_events;
 use link::Event;
@@ -36,7 +36,7 @@ fn event_lines<T: Load>(heap: Global, events: &[Event<T>]) -> Result<String, All
 fn run_lines<'s, T: Load>(heap: Global, sheet: &Sheet<'s, T>) -> Result<String, AllocError>
     ensures made { IfOk result (λ text. string_bytes text ≡ lines_of T.Load (events_of sheet.now)) }
     ensures memory { IfErr result (λ _. 0 < length (lines_of T.Load (events_of sheet.now))) }
-    ensures law { IfOk result (λ _. TruthfulRun sheet.now) }
+    ensures law { IfOk result (λ _. IsLawfulRun sheet.now) }
 {
     event_lines(heap, &sheet_events(heap, sheet)?)
 }
@@ -55,7 +55,7 @@ fn refused_line(heap: Global, fault: SheetFault) -> Result<String, AllocError>
 pub fn sheet_lines(heap: Global, octets: &[u8]) -> Result<String, AllocError>
     ensures made { IfOk result (λ text. string_bytes text ≡ sheet_prints octets.now) }
     ensures memory { IfErr result (λ _. NeedsMemory octets.now) }
-    ensures law { IfOk result (λ _. TruthfulPrints (sheet_reads octets.now)) }
+    ensures law { IfOk result (λ _. RunsLawfully (sheet_reads octets.now)) }
 {
     match AnySheet::read(heap, octets) {
         Ok(AnySheet::Readings(sheet)) => run_lines(heap, &sheet),

@@ -1,8 +1,9 @@
 // Runs on a link over two rains, whose marks decide what is answered.
 ghost use Rattle.std.specs.Prelude.{◌≡◌, ◌<◌, List, [], length, take, IfOk, IfErr, vec_items};
-ghost use Rattle.link.specs.Histories.{Reached, Lawful};
+ghost use Rattle.link.specs.Histories.{HistoryLeads};
+ghost use Rattle.link.specs.Laws.{StaysLawful};
 ghost use Rattle.link.specs.Runs.{run_answer, run_count, written, behind};
-ghost use Rattle.sheetrun.specs.Prints.{link_at_start, events_of, TruthfulRun};
+ghost use Rattle.sheetrun.specs.Prints.{link_at_start, events_of, IsLawfulRun};
 ghost use Rattle.sheetrun.specs.CallsByMarks.{marked_link, calls_by_marks};
 
 use channels::{Rain, Store, Wire};
@@ -23,9 +24,13 @@ pub fn run_by_marks<'m, T: Load>(
     log: &mut [Event<T>],
 ) -> Result<(), LinkRefusal>
     ensures answer { result ≡ run_answer (length calls.now) (length log.old) }
-    ensures after { (written calls.now log.old log.new, marked_link T.Load link.new) ≡ calls_by_marks book.now (take (run_count (length calls.now) (length log.old)) calls.now) (marked_link T.Load link.old) }
+    ensures after { (written calls.now log.old log.new, marked_link T.Load link.new)
+        ≡ calls_by_marks book.now
+        (take (run_count (length calls.now) (length log.old)) calls.now)
+        (marked_link T.Load link.old) }
     ensures later { behind calls.now log.old log.new ≡ behind calls.now log.old log.old }
-    ensures law { Lawful book.now (marked_link T.Load link.old).link (written calls.now log.old log.new) (marked_link T.Load link.new).link }
+    ensures law { StaysLawful book.now (marked_link T.Load link.old).link
+        (written calls.now log.old log.new) (marked_link T.Load link.new).link }
 {
     link.run(book, calls, log)
 }
@@ -38,8 +43,10 @@ fn run_whole<'m, T: Load>(
     log: &mut [Event<T>],
 )
     requires { length calls.now ≡ length log.old }
-    ensures after { (log.new, marked_link T.Load link.new) ≡ calls_by_marks book.now calls.now (marked_link T.Load link.old) }
-    ensures law { Lawful book.now (marked_link T.Load link.old).link log.new (marked_link T.Load link.new).link }
+    ensures after { (log.new, marked_link T.Load link.new)
+        ≡ calls_by_marks book.now calls.now (marked_link T.Load link.old) }
+    ensures law { StaysLawful book.now (marked_link T.Load link.old).link log.new
+        (marked_link T.Load link.new).link }
 {
     run_by_marks(link, book, calls, log).unwrap();
 }
@@ -47,7 +54,8 @@ fn run_whole<'m, T: Load>(
 // A link over the marks of a sheet, joined with its repeats.
 fn joined_link<'s, T: Load>(sheet: &Sheet<'s, T>) -> RainedLink<'s, T>
     ensures answer { marked_link T.Load result ≡ link_at_start sheet.now }
-    ensures law { (book : List T) → Reached book sheet.now.repeats [] (marked_link T.Load result).link }
+    ensures law { (book : List T) →
+        HistoryLeads book sheet.now.repeats [] (marked_link T.Load result).link }
 {
     let to_hut = Rain::new(Wire::new(), sheet.to_hut()).unwrap();
     let back = Rain::new(Store::new(), sheet.back()).unwrap();
@@ -63,7 +71,7 @@ pub fn sheet_events<'s, T: Load>(
 ) -> Result<Vec<Event<T>>, AllocError>
     ensures made { IfOk result (λ events. vec_items events ≡ events_of sheet.now) }
     ensures memory { IfErr result (λ _. 0 < length sheet.now.calls) }
-    ensures law { IfOk result (λ _. TruthfulRun sheet.now) }
+    ensures law { IfOk result (λ _. IsLawfulRun sheet.now) }
 {
     let mut link = joined_link(sheet);
     let calls = sheet.calls();

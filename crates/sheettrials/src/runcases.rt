@@ -1,7 +1,7 @@
 // Runs of sheets as events, and runs by marks into logs of other lengths.
 use crate::plans::{NOTHING, PIECES, Plan, pieces_of, readings_of};
 use channels::{Rain, Store, Wire};
-use link::{Answer, Call, Event, Heard, Link, LinkRefusal, Mark};
+use link::{Answer, Call, Event, Heard, Link, LinkRefusal, Position};
 use loads::{Book, Load, Piece, Reading};
 use sheet::Sheet;
 use sheetrun::{RainedLink, run_by_marks, sheet_events};
@@ -58,7 +58,7 @@ const READING_EVENTS: [Event<Reading>; 6] = [
     },
     Event {
         call: Call::Tell,
-        answer: Ok(Answer::Told(Mark::Ok, Reading { value: 7 })),
+        answer: Ok(Answer::Told(Position::Ok, Reading { value: 7 })),
     },
     Event {
         call: Call::Carry,
@@ -96,7 +96,7 @@ fn a_sheet_of_pieces_has_events(rt: HostRuntime) -> Result<(), Fail> {
         answered(REQUEST, Answer::Done),
         answered(Call::Send, Answer::Done),
         answered(Call::Carry, Answer::Polled(Heard::Arrived)),
-        answered(Call::Tell, Answer::Told(Mark::Ok, piece)),
+        answered(Call::Tell, Answer::Told(Position::Ok, piece)),
         answered(Call::Reply, Answer::Done),
         answered(Call::Return, Answer::Polled(Heard::Lost)),
     ];

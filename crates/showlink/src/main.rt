@@ -4,9 +4,8 @@
 
 ghost use Rattle.std.specs.Prelude.{◌≡◌, map, IfOk};
 ghost use Rattle.link.specs.States.{plain};
-ghost use Rattle.link.specs.Histories.{Reached};
-ghost use Rattle.link.specs.Truths.{Truthful};
-ghost use Rattle.link.specs.Turns.{turns};
+ghost use Rattle.link.specs.Histories.{HistoryLeads};
+ghost use Rattle.link.specs.Laws.{IsLawful};
 ghost use Rattle.link.specs.Runs.{call_of};
 ghost use Rattle.showlink.specs.Sendings.{sendings};
 
@@ -58,7 +57,10 @@ fn send_three<K: Channel<Reading>, L: Channel<EmptyLoad>>(
     book: &Book<Reading>,
 ) -> Result<[Event<Reading>; 27], LinkRefusal>
     ensures calls { IfOk result (λ log. map call_of log ≡ sendings) }
-    ensures law { IfOk result (λ log. Reached book.now 2 log (plain K.Channel L.Channel link.new) × Truthful book.now 2 (turns log)) }
+    ensures law {
+        IfOk result (λ log. HistoryLeads book.now 2 log (plain K.Channel L.Channel link.new)
+            × IsLawful book.now 2 log)
+    }
 {
     link.join(2)?;
     // no call answers this, so an entry that no call wrote would show

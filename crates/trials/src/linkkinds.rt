@@ -6,7 +6,7 @@ use crate::linksteps::{
     follow_new, readings,
 };
 use channels::{Hop, Store, Wire};
-use link::{Answer, Call, Heard, LinkRefusal, Mark, Word};
+use link::{Answer, Call, Heard, LinkRefusal, Position, Word};
 use loads::{Book, EmptyLoad, Load, Piece, Reading};
 use std::fmt::Debug;
 use std::process::Abort;
@@ -31,12 +31,12 @@ fn three_told<T: Copy>([first, second, third]: [T; 3]) -> [Step<T>; 28] {
         Make(Call::Retry, done),
         Make(Call::Send, done),
         Make(Call::Carry, arrived),
-        Make(Call::Tell, Ok(Answer::Told(Mark::First, first))),
+        Make(Call::Tell, Ok(Answer::Told(Position::First, first))),
         Make(Call::Reply, done),
         Make(Call::Return, arrived),
         Make(Call::Send, done),
         Make(Call::Carry, arrived),
-        Make(Call::Tell, Ok(Answer::Told(Mark::Incomplete, second))),
+        Make(Call::Tell, Ok(Answer::Told(Position::Incomplete, second))),
         Make(Call::Reply, done),
         Make(Call::Return, lost),
         Make(Call::Retry, done),
@@ -47,7 +47,7 @@ fn three_told<T: Copy>([first, second, third]: [T; 3]) -> [Step<T>; 28] {
         Make(Call::Return, arrived),
         Make(Call::Send, done),
         Make(Call::Carry, arrived),
-        Make(Call::Tell, Ok(Answer::Told(Mark::Ok, third))),
+        Make(Call::Tell, Ok(Answer::Told(Position::Ok, third))),
         Make(Call::Reply, done),
         Make(Call::Return, arrived),
         Make(Call::Confirm, Ok(Answer::Confirmed(Word::Ok))),

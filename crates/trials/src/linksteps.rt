@@ -2,7 +2,7 @@
 use crate::crossings::below;
 use channel::Channel;
 use channels::{Store, Wire};
-use link::{Answer, Call, Heard, Link, LinkRefusal, Mark, Word};
+use link::{Answer, Call, Heard, Link, LinkRefusal, Position, Word};
 use loads::{Book, EmptyLoad, Load, Reading};
 use std::alloc::Global;
 use std::fmt::Debug;
@@ -29,12 +29,12 @@ pub const DONT_KNOW: Answered<Reading> = Ok(Answer::Confirmed(Word::DontKnow));
 pub const NOT_DUE: Answered<Reading> = Err(LinkRefusal::NotDue);
 
 // The hut is told the first of the readings: as the only one of its message, or as the first of several.
-pub const ONLY_7: Answered<Reading> = Ok(Answer::Told(Mark::Ok, Reading { value: 7 }));
+pub const ONLY_7: Answered<Reading> = Ok(Answer::Told(Position::Ok, Reading { value: 7 }));
 
-pub const FIRST_7: Answered<Reading> = Ok(Answer::Told(Mark::First, Reading { value: 7 }));
+pub const FIRST_7: Answered<Reading> = Ok(Answer::Told(Position::First, Reading { value: 7 }));
 
 // The hut is told the second, as the last of its message.
-pub const LAST_8: Answered<Reading> = Ok(Answer::Told(Mark::Ok, Reading { value: 8 }));
+pub const LAST_8: Answered<Reading> = Ok(Answer::Told(Position::Ok, Reading { value: 8 }));
 
 // A request of the first reading, of the first two, or of all three.
 pub const ONE: Call = Call::Request { start: 0, count: 1 };

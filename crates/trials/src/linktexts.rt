@@ -2,7 +2,7 @@
 use crate::linksteps::{
     ARRIVED, Answered, DONE, DONT_KNOW, LOST, NOT_DUE, NOT_OK, OK, ONE, ONLY_7, STILL,
 };
-use link::{Answer, Call, Event, LinkRefusal, Mark, TimerRefusal, Word};
+use link::{Answer, Call, Event, LinkRefusal, Position, TimerRefusal, Word};
 use linktext::{call_line, outcome_line};
 use loads::{EmptyLoad, Load, Piece, Reading};
 use std::alloc::Global;
@@ -31,10 +31,10 @@ fn calls_have_letters(rt: HostRuntime) {
     }
 }
 
-const FIRST_10: Answered<Reading> = Ok(Answer::Told(Mark::First, Reading { value: 10 }));
+const FIRST_10: Answered<Reading> = Ok(Answer::Told(Position::First, Reading { value: 10 }));
 
 const HIGHEST: Answered<Reading> = Ok(Answer::Told(
-    Mark::Incomplete,
+    Position::Incomplete,
     Reading {
         value: 4_294_967_295,
     },
@@ -80,10 +80,10 @@ fn a_line_shows_what_a_call_answers(rt: HostRuntime) -> Result<(), Fail> {
 #[test]
 fn a_line_shows_the_octets_of_any_load(rt: HostRuntime) -> Result<(), Fail> {
     let piece = Piece::new(20, 1_048_575, 349_525, 3, 0x0123_4567_89AB_CDEF)?;
-    let told = Ok(Answer::Told(Mark::First, piece));
+    let told = Ok(Answer::Told(Position::First, piece));
     let line = "T 0 FIRST 14000FFFFF0005555500030123456789ABCDEF";
     have_lines(&rt, rt.alloc(), &[(Call::Tell, told, line)])?;
-    let told = Ok(Answer::Told(Mark::Ok, EmptyLoad));
+    let told = Ok(Answer::Told(Position::Ok, EmptyLoad));
     have_lines(&rt, rt.alloc(), &[(Call::Tell, told, "T 0 OK ")])
 }
 

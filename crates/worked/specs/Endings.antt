@@ -5,7 +5,7 @@ use Rattle.loads.specs.declared.readings.Reading.{Reading}
 use Rattle.channels.specs.declared.marks.Mark.{Mark}
 use Rattle.channels.specs.declared.marks.Mark.TheVariants.{Pass}
 use Rattle.link.specs.declared.events.Event.{Event}
-use Rattle.link.specs.Rules as rule
+use Rattle.link.specs.Calls as rule
 use Rattle.link.specs.States.{started}
 use Rattle.sheetrun.specs.CallsByMarks.{MarkedLink}
 use Rattle.worked.specs.declared.endings.Ending.{Ending}

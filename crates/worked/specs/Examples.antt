@@ -19,7 +19,7 @@ use Rattle.sheetrun.specs.CallsByMarks.{calls_by_marks}
 use Rattle.worked.specs.declared.endings.Ending.{Ending}
 use Rattle.worked.specs.declared.examples.Examples.{Examples}
 use Rattle.worked.specs.Endings.{link_over, ending_of}
-use Rattle.link.specs.Rules as rule
+use Rattle.link.specs.Calls as rule
 use Rattle.link.specs.States.{started}
 
 -- reading 7, first on, last and toggle off, as octets
@@ -32,7 +32,7 @@ empty_frame = frame_spelled empties (record { first = false; last = true; toggle
 
 -- requests from a start and of a count on a link that has just joined
 abbrev pub request_answer : List Reading → ℕ → ℕ → Result (Unit {0}) LinkRefusal
-request_answer book start count = (rule.request book start count (started 0)).0
+request_answer book start count = (rule.request book start count (started 0)).answer
 
 abbrev pub request_answers : List Reading → List (Result (Unit {0}) LinkRefusal)
 request_answers book = request_answer book 0 4097 ∷ request_answer book 1 4096 ∷ request_answer book 0 4096 ∷ []
