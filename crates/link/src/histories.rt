@@ -11,14 +11,16 @@ ghost use Rattle.link.specs.Laws.{IsLawful, outcome_of};
 // of the last message what the history says.
 #[tactic(auto, using(crate::proofs::Laws::history_longer, crate::proofs::Moves::history_outcome))]
 pub fn histories_are_truthful<T>()
-    ensures longer { (book : List T) (repeats : ℕ) (history : List (Event T)) (before after : LinkState T)
-        (event : Event T) → HistoryLeads book repeats history before →
-        EventLeads book before event after →
+    ensures longer { (book : List T) (repeats : ℕ) (history : List (Event T))
+        (before after : LinkState T) (event : Event T) →
+        HistoryLeads book repeats history before → EventLeads book before event after →
         HistoryLeads book repeats (history ++ event ∷ []) after }
     ensures refused { (book : List T) (before after : LinkState T) (event : Event T) →
         EventLeads book before event after → OnErr event.answer (after ≡ before) }
-    ensures truthful { (book : List T) (repeats : ℕ) (history : List (Event T)) (link : LinkState T) →
+    ensures truthful { (book : List T) (repeats : ℕ) (history : List (Event T))
+        (link : LinkState T) →
         HistoryLeads book repeats history link → IsLawful book repeats history }
-    ensures outcome { (book : List T) (repeats : ℕ) (history : List (Event T)) (link : LinkState T) →
+    ensures outcome { (book : List T) (repeats : ℕ) (history : List (Event T))
+        (link : LinkState T) →
         HistoryLeads book repeats history link → outcome link ≡ outcome_of history }
 {}

@@ -132,12 +132,14 @@ impl<T: Copy> Hut<T> {
 
     // Puts a reply to the frame that is held into the channel.
     pub fn reply<L: Channel<EmptyLoad>>(&mut self, channel: &mut L) -> Result<(), LinkRefusal>
-        ensures answer { result ≡ (offers self.old (L.waiting channel.old) (hut.reply self.old)).answer }
-        ensures after { self.new ≡ (offers self.old (L.waiting channel.old) (hut.reply self.old)).after }
+        ensures answer { result
+            ≡ (offers self.old (L.waiting channel.old) (hut.reply self.old)).answer }
+        ensures after { self.new
+            ≡ (offers self.old (L.waiting channel.old) (hut.reply self.old)).after }
         ensures waiting { L.waiting channel.new
             ≡ (offers self.old (L.waiting channel.old) (hut.reply self.old)).waiting }
-        ensures puts { let replied = offers self.old (L.waiting channel.old) (hut.reply self.old) in
-            RowLeads L.Channel channel.old replied.puts channel.new }
+        ensures puts { RowLeads L.Channel channel.old
+            (offers self.old (L.waiting channel.old) (hut.reply self.old)).puts channel.new }
     {
         let place = self.next_place(HutEvent::Reply)?;
         let frame = self.held.ok_or(LinkRefusal::NotDue)?;

@@ -120,11 +120,12 @@ impl<T: Load, K: Channel<T>, L: Channel<EmptyLoad>> Link<T, K, L> {
 
     // Opens a message of `count` loads of the book from `start` on.
     pub fn request(&mut self, book: &Book<T>, start: u16, count: u16) -> Result<(), LinkRefusal>
-        ensures answer { result ≡ (rule.request book.now start count (plain K.Channel L.Channel self.old)).answer }
+        ensures answer { result
+            ≡ (rule.request book.now start count (plain K.Channel L.Channel self.old)).answer }
         ensures after { plain K.Channel L.Channel self.new
             ≡ (rule.request book.now start count (plain K.Channel L.Channel self.old)).after }
-        ensures step { Steps K.Channel L.Channel book.now self.old (event_of (call.Request start count) (λ _. Done) result)
-            self.new }
+        ensures step { Steps K.Channel L.Channel book.now self.old
+            (event_of (call.Request start count) (λ _. Done) result) self.new }
     {
         self.joined()?;
         self.sender.request(book.len(), start, count)?;
@@ -137,8 +138,8 @@ impl<T: Load, K: Channel<T>, L: Channel<EmptyLoad>> Link<T, K, L> {
         ensures answer { result ≡ (rule.send book.now (plain K.Channel L.Channel self.old)).answer }
         ensures after { plain K.Channel L.Channel self.new
             ≡ (rule.send book.now (plain K.Channel L.Channel self.old)).after }
-        ensures step { Steps K.Channel L.Channel book.now self.old (event_of call.Send (λ _. Done) result)
-            self.new }
+        ensures step { Steps K.Channel L.Channel book.now self.old
+            (event_of call.Send (λ _. Done) result) self.new }
     {
         self.joined()?;
         self.sender.send(book, &mut self.to_hut)
@@ -146,11 +147,14 @@ impl<T: Load, K: Channel<T>, L: Channel<EmptyLoad>> Link<T, K, L> {
 
     // Polls the channel to the hut. Open: what becomes of a frame that waits there.
     pub fn carry(&mut self) -> Result<Heard, LinkRefusal>
-        ensures open_answer { result ≡ (rule.carry (result_unwrap_or result Still) (plain K.Channel L.Channel self.old)).answer }
+        ensures open_answer { result
+            ≡ (rule.carry (result_unwrap_or result Still)
+            (plain K.Channel L.Channel self.old)).answer }
         ensures after { plain K.Channel L.Channel self.new
-            ≡ (rule.carry (result_unwrap_or result Still) (plain K.Channel L.Channel self.old)).after }
-        ensures step { (book : List T) →
-            Steps K.Channel L.Channel book self.old (event_of call.Carry Polled result) self.new }
+            ≡ (rule.carry (result_unwrap_or result Still)
+            (plain K.Channel L.Channel self.old)).after }
+        ensures step { (book : List T) → Steps K.Channel L.Channel book self.old
+            (event_of call.Carry Polled result) self.new }
     {
         self.joined()?;
         match self.to_hut.poll() {
@@ -172,8 +176,8 @@ impl<T: Load, K: Channel<T>, L: Channel<EmptyLoad>> Link<T, K, L> {
         ensures answer { result ≡ (rule.tell (plain K.Channel L.Channel self.old)).answer }
         ensures after { plain K.Channel L.Channel self.new
             ≡ (rule.tell (plain K.Channel L.Channel self.old)).after }
-        ensures step { (book : List T) →
-            Steps K.Channel L.Channel book self.old (event_of call.Tell (λ told. Told told.0 told.1) result) self.new }
+        ensures step { (book : List T) → Steps K.Channel L.Channel book self.old
+            (event_of call.Tell (λ told. Told told.0 told.1) result) self.new }
     {
         self.joined()?;
         let told = self.hut.tell()?;
@@ -186,8 +190,8 @@ impl<T: Load, K: Channel<T>, L: Channel<EmptyLoad>> Link<T, K, L> {
         ensures answer { result ≡ (rule.reply (plain K.Channel L.Channel self.old)).answer }
         ensures after { plain K.Channel L.Channel self.new
             ≡ (rule.reply (plain K.Channel L.Channel self.old)).after }
-        ensures step { (book : List T) →
-            Steps K.Channel L.Channel book self.old (event_of call.Reply (λ _. Done) result) self.new }
+        ensures step { (book : List T) → Steps K.Channel L.Channel book self.old
+            (event_of call.Reply (λ _. Done) result) self.new }
     {
         self.joined()?;
         self.hut.reply(&mut self.back)
@@ -195,11 +199,14 @@ impl<T: Load, K: Channel<T>, L: Channel<EmptyLoad>> Link<T, K, L> {
 
     // Polls the channel back. Open: what becomes of a reply that waits there.
     pub fn return_reply(&mut self) -> Result<Heard, LinkRefusal>
-        ensures open_answer { result ≡ (rule.return (result_unwrap_or result Still) (plain K.Channel L.Channel self.old)).answer }
+        ensures open_answer { result
+            ≡ (rule.return (result_unwrap_or result Still)
+            (plain K.Channel L.Channel self.old)).answer }
         ensures after { plain K.Channel L.Channel self.new
-            ≡ (rule.return (result_unwrap_or result Still) (plain K.Channel L.Channel self.old)).after }
-        ensures step { (book : List T) →
-            Steps K.Channel L.Channel book self.old (event_of call.Return Polled result) self.new }
+            ≡ (rule.return (result_unwrap_or result Still)
+            (plain K.Channel L.Channel self.old)).after }
+        ensures step { (book : List T) → Steps K.Channel L.Channel book self.old
+            (event_of call.Return Polled result) self.new }
     {
         self.joined()?;
         match self.back.poll() {
@@ -221,8 +228,8 @@ impl<T: Load, K: Channel<T>, L: Channel<EmptyLoad>> Link<T, K, L> {
         ensures answer { result ≡ (rule.retry (plain K.Channel L.Channel self.old)).answer }
         ensures after { plain K.Channel L.Channel self.new
             ≡ (rule.retry (plain K.Channel L.Channel self.old)).after }
-        ensures step { (book : List T) →
-            Steps K.Channel L.Channel book self.old (event_of call.Retry (λ _. Done) result) self.new }
+        ensures step { (book : List T) → Steps K.Channel L.Channel book self.old
+            (event_of call.Retry (λ _. Done) result) self.new }
     {
         let repeats = self.joined()?;
         self.sender.retry(repeats)
@@ -233,8 +240,8 @@ impl<T: Load, K: Channel<T>, L: Channel<EmptyLoad>> Link<T, K, L> {
         ensures answer { result ≡ (rule.abandon (plain K.Channel L.Channel self.old)).answer }
         ensures after { plain K.Channel L.Channel self.new
             ≡ (rule.abandon (plain K.Channel L.Channel self.old)).after }
-        ensures step { (book : List T) →
-            Steps K.Channel L.Channel book self.old (event_of call.Abandon (λ _. Done) result) self.new }
+        ensures step { (book : List T) → Steps K.Channel L.Channel book self.old
+            (event_of call.Abandon (λ _. Done) result) self.new }
     {
         self.joined()?;
         self.sender.abandon()
@@ -245,8 +252,8 @@ impl<T: Load, K: Channel<T>, L: Channel<EmptyLoad>> Link<T, K, L> {
         ensures answer { result ≡ (rule.confirm (plain K.Channel L.Channel self.old)).answer }
         ensures after { plain K.Channel L.Channel self.new
             ≡ (rule.confirm (plain K.Channel L.Channel self.old)).after }
-        ensures step { (book : List T) →
-            Steps K.Channel L.Channel book self.old (event_of call.Confirm Confirmed result) self.new }
+        ensures step { (book : List T) → Steps K.Channel L.Channel book self.old
+            (event_of call.Confirm Confirmed result) self.new }
     {
         self.joined()?;
         let word = self.sender.confirm()?;
@@ -259,8 +266,8 @@ impl<T: Load, K: Channel<T>, L: Channel<EmptyLoad>> Link<T, K, L> {
         ensures answer { result ≡ (rule.part (plain K.Channel L.Channel self.old)).answer }
         ensures after { plain K.Channel L.Channel self.new
             ≡ (rule.part (plain K.Channel L.Channel self.old)).after }
-        ensures step { (book : List T) →
-            Steps K.Channel L.Channel book self.old (event_of call.Part (λ _. Done) result) self.new }
+        ensures step { (book : List T) → Steps K.Channel L.Channel book self.old
+            (event_of call.Part (λ _. Done) result) self.new }
     {
         self.joined()?;
         self.sender.part()?;
@@ -273,8 +280,8 @@ impl<T: Load, K: Channel<T>, L: Channel<EmptyLoad>> Link<T, K, L> {
         ensures answer { result ≡ (rule.break (plain K.Channel L.Channel self.old)).answer }
         ensures after { plain K.Channel L.Channel self.new
             ≡ (rule.break (plain K.Channel L.Channel self.old)).after }
-        ensures step { (book : List T) →
-            Steps K.Channel L.Channel book self.old (event_of call.Break (λ _. Done) result) self.new }
+        ensures step { (book : List T) → Steps K.Channel L.Channel book self.old
+            (event_of call.Break (λ _. Done) result) self.new }
     {
         self.joined()?;
         self.hut.tell_break()
@@ -285,8 +292,8 @@ impl<T: Load, K: Channel<T>, L: Channel<EmptyLoad>> Link<T, K, L> {
         ensures answer { result ≡ (rule.meet (plain K.Channel L.Channel self.old)).answer }
         ensures after { plain K.Channel L.Channel self.new
             ≡ (rule.meet (plain K.Channel L.Channel self.old)).after }
-        ensures step { (book : List T) →
-            Steps K.Channel L.Channel book self.old (event_of call.Meet (λ _. Done) result) self.new }
+        ensures step { (book : List T) → Steps K.Channel L.Channel book self.old
+            (event_of call.Meet (λ _. Done) result) self.new }
     {
         self.joined()?;
         self.hut.meet()?;

@@ -25,7 +25,8 @@ impl<T: Load, K: Channel<T>, L: Channel<EmptyLoad>> Link<T, K, L> {
         ensures called { map call_of (written calls.now log.old log.new)
             ≡ take (run_count (length calls.now) (length log.old)) calls.now }
         ensures later { behind calls.now log.old log.new ≡ behind calls.now log.old log.old }
-        ensures open_answers { Runs K.Channel L.Channel book.now self.old (written calls.now log.old log.new) self.new }
+        ensures open_answers { Runs K.Channel L.Channel book.now self.old
+            (written calls.now log.old log.new) self.new }
         ensures law { StaysLawful book.now (plain K.Channel L.Channel self.old)
             (written calls.now log.old log.new) (plain K.Channel L.Channel self.new) }
     {

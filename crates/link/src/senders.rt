@@ -208,8 +208,9 @@ impl Sender {
             ≡ (offers self.old (K.waiting channel.old) (sender.send book.now self.old)).after }
         ensures waiting { K.waiting channel.new
             ≡ (offers self.old (K.waiting channel.old) (sender.send book.now self.old)).waiting }
-        ensures puts { let sent = offers self.old (K.waiting channel.old) (sender.send book.now self.old) in
-            RowLeads K.Channel channel.old sent.puts channel.new }
+        ensures puts { RowLeads K.Channel channel.old
+            (offers self.old (K.waiting channel.old) (sender.send book.now self.old)).puts
+            channel.new }
     {
         let place = self.next_place(SenderEvent::Send)?;
         let frame = self.frame(book).ok_or(LinkRefusal::NoLoad)?;

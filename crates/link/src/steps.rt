@@ -14,8 +14,8 @@ use loads::{Book, EmptyLoad, Load};
 impl<T: Load, K: Channel<T>, L: Channel<EmptyLoad>> Link<T, K, L> {
     // Makes a call of any kind. Open: what becomes of a frame that is polled for.
     fn make(&mut self, book: &Book<T>, call: Call) -> Result<Answer<T>, LinkRefusal>
-        ensures open_answer { Steps K.Channel L.Channel book.now self.old (record { call = call; answer = result })
-            self.new }
+        ensures open_answer { Steps K.Channel L.Channel book.now self.old
+            (record { call = call; answer = result }) self.new }
     {
         match call {
             Call::Request { start, count } => self.request(book, start, count)?,

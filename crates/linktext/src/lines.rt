@@ -10,7 +10,8 @@ use std::fmt::Write;
 
 // Adds the octets of a load to a text, in hexadecimal.
 fn push_load<T: Load>(text: &mut String, load: &T) -> Result<(), AllocError>
-    ensures made { IfOk result (λ _. string_bytes text.new ≡ string_bytes text.old ++ load_text T.Load load.now) }
+    ensures made { IfOk result (λ _. string_bytes text.new
+        ≡ string_bytes text.old ++ load_text T.Load load.now) }
 {
     let mut octets = [0; LONGEST_FRAME];
     load.write(&mut octets).unwrap();
@@ -19,7 +20,8 @@ fn push_load<T: Load>(text: &mut String, load: &T) -> Result<(), AllocError>
 
 // Adds a word behind a space.
 fn push_word(text: &mut String, word: &str) -> Result<(), AllocError>
-    ensures made { IfOk result (λ _. string_bytes text.new ≡ string_bytes text.old ++ (codes " " ++ word.now)) }
+    ensures made { IfOk result (λ _. string_bytes text.new
+        ≡ string_bytes text.old ++ (codes " " ++ word.now)) }
 {
     text.push(' ')?;
     text.push_str(word)
@@ -30,7 +32,8 @@ fn push_shown<T: Load>(
     text: &mut String,
     answer: &Result<Answer<T>, LinkRefusal>,
 ) -> Result<(), AllocError>
-    ensures made { IfOk result (λ _. string_bytes text.new ≡ string_bytes text.old ++ shown_text T.Load answer.now) }
+    ensures made { IfOk result (λ _. string_bytes text.new
+        ≡ string_bytes text.old ++ shown_text T.Load answer.now) }
 {
     match answer {
         Ok(Answer::Polled(heard)) => push_word(text, heard.word()),
@@ -47,7 +50,8 @@ fn push_shown<T: Load>(
 // Adds a number. One of a single digit, as most are, needs no formatting.
 #[tactic(auto, using(std::proofs::lemmas::Fmt::decimal_digit))]
 fn push_number(text: &mut String, number: u8) -> Result<(), AllocError>
-    ensures made { IfOk result (λ _. string_bytes text.new ≡ string_bytes text.old ++ decimal number) }
+    ensures made { IfOk result (λ _. string_bytes text.new
+        ≡ string_bytes text.old ++ decimal number) }
 {
     if number < 10 {
         return text.push(char::from(b'0' + number));
@@ -58,7 +62,8 @@ fn push_number(text: &mut String, number: u8) -> Result<(), AllocError>
 // Adds the letter of a call, the number of its answer, and what it shows if it is accepted. Open: whether there is memory
 // for them, and what of them the text has if not.
 pub fn push_call<T: Load>(text: &mut String, event: &Event<T>) -> Result<(), AllocError>
-    ensures made { IfOk result (λ _. string_bytes text.new ≡ string_bytes text.old ++ call_text T.Load event.now) }
+    ensures made { IfOk result (λ _. string_bytes text.new
+        ≡ string_bytes text.old ++ call_text T.Load event.now) }
 {
     text.push(event.call.letter())?;
     text.push(' ')?;

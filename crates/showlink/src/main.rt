@@ -57,10 +57,8 @@ fn send_three<K: Channel<Reading>, L: Channel<EmptyLoad>>(
     book: &Book<Reading>,
 ) -> Result<[Event<Reading>; 27], LinkRefusal>
     ensures calls { IfOk result (λ log. map call_of log ≡ sendings) }
-    ensures law {
-        IfOk result (λ log. HistoryLeads book.now 2 log (plain K.Channel L.Channel link.new)
-            × IsLawful book.now 2 log)
-    }
+    ensures law { IfOk result (λ log. HistoryLeads book.now 2 log (plain K.Channel L.Channel link.new)
+        × IsLawful book.now 2 log) }
 {
     link.join(2)?;
     // no call answers this, so an entry that no call wrote would show

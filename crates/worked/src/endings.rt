@@ -26,10 +26,8 @@ fn joined_over<'m>(repeats: u8, to_hut: &'m [u8], back: &'m [u8]) -> RainedLink<
     requires repeats { repeats ≤ most_repeats }
     requires to_hut { good_marks to_hut.now ≡ true }
     requires back { good_marks back.now ≡ true }
-    ensures answer {
-        marked_link readings result
-            ≡ link_over repeats (marks_of to_hut.now) (marks_of back.now)
-    }
+    ensures answer { marked_link readings result
+        ≡ link_over repeats (marks_of to_hut.now) (marks_of back.now) }
 {
     let to_hut = Rain::new(Wire::new(), to_hut).unwrap();
     let back = Rain::new(Store::new(), back).unwrap();
@@ -57,10 +55,8 @@ pub fn run_over(
     requires repeats { repeats ≤ most_repeats }
     requires to_hut { good_marks to_hut.now ≡ true }
     requires back { good_marks back.now ≡ true }
-    ensures answer {
-        let link = link_over repeats (marks_of to_hut.now) (marks_of back.now) in
-        IfOk result (λ it. it ≡ ending_of (calls_by_marks book.now calls.now link))
-    }
+    ensures answer { let link = link_over repeats (marks_of to_hut.now) (marks_of back.now) in
+        IfOk result (λ it. it ≡ ending_of (calls_by_marks book.now calls.now link)) }
 {
     let mut link = joined_over(repeats, to_hut, back);
     let unwritten = Event {

@@ -116,7 +116,8 @@ fn longest_book(heap: Global) -> Result<Book<Reading>, Fault>
 
 // The requests' answers; the last of them is accepted.
 fn requests(heap: Global) -> Result<[Result<(), LinkRefusal>; 3], Fault>
-    ensures answer { MatchResult result (λ answers. answers ≡ examples.requests) (λ fault. fault ≡ NoMemory) }
+    ensures answer { MatchResult result (λ answers. answers ≡ examples.requests)
+        (λ fault. fault ≡ NoMemory) }
 {
     let book = longest_book(heap)?;
     let mut link = Link::new(Wire::new(), Store::new());
@@ -130,7 +131,8 @@ fn requests(heap: Global) -> Result<[Result<(), LinkRefusal>; 3], Fault>
 
 // How the message ends whose frame is lost.
 fn lost_frame(heap: Global) -> Result<Ending, Fault>
-    ensures answer { MatchResult result (λ ending. ending ≡ examples.lost_frame) (λ fault. fault ≡ NoMemory) }
+    ensures answer { MatchResult result (λ ending. ending ≡ examples.lost_frame)
+        (λ fault. fault ≡ NoMemory) }
 {
     let book = Book::read(heap, 1, &[0, 0, 0, 7])?;
     Ok(run_over(heap, &book, 0, &[1], &[], &LOST_FRAME)?)
@@ -138,7 +140,8 @@ fn lost_frame(heap: Global) -> Result<Ending, Fault>
 
 // How the message ends that is abandoned.
 fn abandoned(heap: Global) -> Result<Ending, Fault>
-    ensures answer { MatchResult result (λ ending. ending ≡ examples.abandoned) (λ fault. fault ≡ NoMemory) }
+    ensures answer { MatchResult result (λ ending. ending ≡ examples.abandoned)
+        (λ fault. fault ≡ NoMemory) }
 {
     let book = Book::read(heap, 2, &[0, 0, 0, 7, 0, 0, 0, 8])?;
     Ok(run_over(heap, &book, 0, &[], &[], &ABANDONED)?)
@@ -146,7 +149,8 @@ fn abandoned(heap: Global) -> Result<Ending, Fault>
 
 // How the message ends whose reply is lost.
 fn lost_reply(heap: Global) -> Result<Ending, Fault>
-    ensures answer { MatchResult result (λ ending. ending ≡ examples.lost_reply) (λ fault. fault ≡ NoMemory) }
+    ensures answer { MatchResult result (λ ending. ending ≡ examples.lost_reply)
+        (λ fault. fault ≡ NoMemory) }
 {
     let book = Book::read(heap, 1, &[0, 0, 0, 7])?;
     Ok(run_over(heap, &book, 0, &[], &[1], &LOST_REPLY)?)
