@@ -1,4 +1,4 @@
-// What is true of every history.
+//! What is true of every history.
 ghost use Rattle.std.specs.Prelude.{◌≡◌, ℕ, List, [], ◌∷◌, ◌++◌, OnErr};
 ghost use Rattle.link.specs.declared.events.Event.{Event};
 ghost use Rattle.link.specs.States.{LinkState};
@@ -6,9 +6,9 @@ ghost use Rattle.link.specs.Histories.{EventLeads, HistoryLeads};
 ghost use Rattle.link.specs.Calls.{outcome};
 ghost use Rattle.link.specs.Laws.{IsLawful, outcome_of};
 
-// The law, of every history over one book from an accepted join on, however its calls were picked: an event more makes it a
-// longer history, and leaves the link as it was where it is a refusal; the law holds of it; and the link where it leads says
-// of the last message what the history says.
+/// The law, of every history over one book from an accepted join on, however its calls were picked: an event more makes it a
+/// longer history, and leaves the link as it was where it is a refusal; the law holds of it; and the link where it leads says
+/// of the last message what the history says.
 #[tactic(auto, using(crate::proofs::Laws::history_longer, crate::proofs::Moves::history_outcome))]
 pub fn histories_are_truthful<T>()
     ensures longer { (book : List T) (repeats : ℕ) (history : List (Event T))

@@ -1,4 +1,4 @@
-// The hut's end: it holds a frame, tells its load, and replies.
+//! The hut's end: it holds a frame, tells its load, and replies.
 ghost use Rattle.std.specs.Prelude.{◌≡◌};
 ghost use Rattle.loads.specs.declared.frames.Frame.{Frame};
 ghost use Rattle.channel.specs.Rows.{Row as RowLeads};
@@ -13,7 +13,7 @@ use channel::Channel;
 use loads::{EmptyLoad, Frame};
 use std::marker::Model;
 
-// The hut's end.
+/// The hut's end.
 #[derive(Drop)]
 pub struct Hut<T> {
     place: HutPlace,
@@ -70,7 +70,7 @@ fn reply_to<T>(frame: &Frame<T>) -> Frame<EmptyLoad>
 }
 
 impl<T: Copy> Hut<T> {
-    // An end that awaits the first frame.
+    /// An end that awaits the first frame.
     pub fn new() -> Hut<T>
         ensures answer { result ≡ hut_start }
     {
@@ -100,7 +100,7 @@ impl<T: Copy> Hut<T> {
         }
     }
 
-    // A frame arrives. An end that awaits none lets it go.
+    /// A frame arrives. An end that awaits none lets it go.
     pub fn carry(&mut self, frame: &Frame<T>)
         ensures after { self.new ≡ hut.arrived self.old frame.now }
     {
@@ -116,7 +116,7 @@ impl<T: Copy> Hut<T> {
         self.held = Some(*frame);
     }
 
-    // Tells the load that is held, with its position.
+    /// Tells the load that is held, with its position.
     pub fn tell(&mut self) -> Result<(Position, T), LinkRefusal>
         ensures answer { result ≡ answer_of (hut.tell self.old) }
         ensures after { self.new ≡ after_of self.old (hut.tell self.old) }
@@ -130,7 +130,7 @@ impl<T: Copy> Hut<T> {
         Ok((position_of(&frame), frame.load))
     }
 
-    // Puts a reply to the frame that is held into the channel.
+    /// Puts a reply to the frame that is held into the channel.
     pub fn reply<L: Channel<EmptyLoad>>(&mut self, channel: &mut L) -> Result<(), LinkRefusal>
         ensures answer { result
             ≡ (offers self.old (L.waiting channel.old) (hut.reply self.old)).answer }
@@ -151,7 +151,7 @@ impl<T: Copy> Hut<T> {
         Ok(())
     }
 
-    // The sender parted.
+    /// The sender parted.
     pub fn part(&mut self)
         ensures after { self.new ≡ hut.parted self.old }
     {
@@ -166,7 +166,7 @@ impl<T: Copy> Hut<T> {
         }
     }
 
-    // Tells that the message was broken off.
+    /// Tells that the message was broken off.
     pub fn tell_break(&mut self) -> Result<(), LinkRefusal>
         ensures answer { result ≡ answer_of (hut.tell_break self.old) }
         ensures after { self.new ≡ after_of self.old (hut.tell_break self.old) }
@@ -177,7 +177,7 @@ impl<T: Copy> Hut<T> {
         Ok(())
     }
 
-    // Is ready for the next message.
+    /// Is ready for the next message.
     pub fn meet(&mut self) -> Result<(), LinkRefusal>
         ensures answer { result ≡ answer_of (hut.meet self.old) }
         ensures after { self.new ≡ after_of self.old (hut.meet self.old) }

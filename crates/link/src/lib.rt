@@ -1,4 +1,4 @@
-// The link: its two ends, its twelve calls and runs of them, the law over all histories, and the timer question.
+//! The link: its two ends, its twelve calls and runs of them, the law over all histories, and the timer question.
 
 #![tactic(auto)]
 

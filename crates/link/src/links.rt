@@ -1,4 +1,4 @@
-// The link between a sender and a hut's end, with its twelve calls. Each call is a step of a history by its clauses.
+//! The link between a sender and a hut's end, with its twelve calls. Each call is a step of a history by its clauses.
 ghost use Rattle.std.specs.Prelude.{◌≡◌, ℕ, List, [], None, Ok, IsOk};
 ghost use Rattle.std.specs.Option.{ok_or};
 ghost use Rattle.link.specs.declared.refusals.LinkRefusal.TheVariants.{NotJoined};
@@ -24,7 +24,8 @@ use channel::{Channel, Poll};
 use loads::{Book, EmptyLoad, Load};
 use std::marker::Model;
 
-// A link over channel K to the hut, and channel L back.
+/// A link over channel K to the hut, and channel L back. Every call of it but join is refused as `NotJoined` before it joined,
+/// and a refused call changes nothing.
 #[derive(Drop)]
 pub struct Link<T, K, L> {
     sender: Sender,
@@ -54,7 +55,7 @@ impl<T, K, L> Model for Link<T, K, L> {
 }
 
 impl<T: Load, K: Channel<T>, L: Channel<EmptyLoad>> Link<T, K, L> {
-    // A link over two channels, not joined.
+    /// A link over two channels, not joined.
     pub fn new(to_hut: K, back: L) -> Link<T, K, L>
         ensures answer { result
             ≡ record {
@@ -78,14 +79,15 @@ impl<T: Load, K: Channel<T>, L: Channel<EmptyLoad>> Link<T, K, L> {
         }
     }
 
-    // The two channels, with what waits in them.
+    /// The two channels, with what waits in them.
     pub fn into_parts(self) -> (K, L)
         ensures answer { result ≡ (self.to_hut, self.back) }
     {
         (self.to_hut, self.back)
     }
 
-    // Starts the two ends, with the repeats, if both channels are empty.
+    /// Starts the two ends, with the repeats, if both channels are empty. Refused as `AlreadyJoined`, `TooManyRepeats` or
+    /// `ChannelHolds`.
     pub fn join(&mut self, repeats: u8) -> Result<(), LinkRefusal>
         ensures answer { result ≡ (rule.join repeats (plain K.Channel L.Channel self.old)).answer }
         ensures after { plain K.Channel L.Channel self.new
@@ -118,7 +120,7 @@ impl<T: Load, K: Channel<T>, L: Channel<EmptyLoad>> Link<T, K, L> {
         self.repeats.ok_or(LinkRefusal::NotJoined)
     }
 
-    // Opens a message of `count` loads of the book from `start` on.
+    /// Opens a message of `count` loads of the book from `start` on. Refused as `MessageOpen`, `BadCount` or `BeyondBook`.
     pub fn request(&mut self, book: &Book<T>, start: u16, count: u16) -> Result<(), LinkRefusal>
         ensures answer { result
             ≡ (rule.request book.now start count (plain K.Channel L.Channel self.old)).answer }
@@ -133,7 +135,7 @@ impl<T: Load, K: Channel<T>, L: Channel<EmptyLoad>> Link<T, K, L> {
         Ok(())
     }
 
-    // Puts the next load of the book into the channel to the hut.
+    /// Puts the next load of the book into the channel to the hut. Refused as `NotDue`, `NoLoad` or `ChannelFull`.
     pub fn send(&mut self, book: &Book<T>) -> Result<(), LinkRefusal>
         ensures answer { result ≡ (rule.send book.now (plain K.Channel L.Channel self.old)).answer }
         ensures after { plain K.Channel L.Channel self.new
@@ -145,7 +147,7 @@ impl<T: Load, K: Channel<T>, L: Channel<EmptyLoad>> Link<T, K, L> {
         self.sender.send(book, &mut self.to_hut)
     }
 
-    // Polls the channel to the hut. Open: what becomes of a frame that waits there.
+    /// Polls the channel to the hut. Refused as `NothingWaits`. Open: what becomes of a frame that waits there.
     pub fn carry(&mut self) -> Result<Heard, LinkRefusal>
         ensures open_answer { result
             ≡ (rule.carry (result_unwrap_or result Still)
@@ -171,7 +173,7 @@ impl<T: Load, K: Channel<T>, L: Channel<EmptyLoad>> Link<T, K, L> {
         }
     }
 
-    // The hut tells the load that it holds, with its position.
+    /// The hut tells the load that it holds, with its position. Refused as `NotDue`.
     pub fn tell(&mut self) -> Result<(Position, T), LinkRefusal>
         ensures answer { result ≡ (rule.tell (plain K.Channel L.Channel self.old)).answer }
         ensures after { plain K.Channel L.Channel self.new
@@ -185,7 +187,7 @@ impl<T: Load, K: Channel<T>, L: Channel<EmptyLoad>> Link<T, K, L> {
         Ok(told)
     }
 
-    // The hut puts a reply into the channel back.
+    /// The hut puts a reply into the channel back. Refused as `NotDue` or `ChannelFull`.
     pub fn reply(&mut self) -> Result<(), LinkRefusal>
         ensures answer { result ≡ (rule.reply (plain K.Channel L.Channel self.old)).answer }
         ensures after { plain K.Channel L.Channel self.new
@@ -197,7 +199,7 @@ impl<T: Load, K: Channel<T>, L: Channel<EmptyLoad>> Link<T, K, L> {
         self.hut.reply(&mut self.back)
     }
 
-    // Polls the channel back. Open: what becomes of a reply that waits there.
+    /// Polls the channel back. Refused as `NothingWaits`. Open: what becomes of a reply that waits there.
     pub fn return_reply(&mut self) -> Result<Heard, LinkRefusal>
         ensures open_answer { result
             ≡ (rule.return (result_unwrap_or result Still)
@@ -223,7 +225,7 @@ impl<T: Load, K: Channel<T>, L: Channel<EmptyLoad>> Link<T, K, L> {
         }
     }
 
-    // After a loss: the sender may send the load once more, or has to confirm.
+    /// After a loss: the sender may send the load once more, or has to confirm. Refused as `NotDue`.
     pub fn retry(&mut self) -> Result<(), LinkRefusal>
         ensures answer { result ≡ (rule.retry (plain K.Channel L.Channel self.old)).answer }
         ensures after { plain K.Channel L.Channel self.new
@@ -235,7 +237,7 @@ impl<T: Load, K: Channel<T>, L: Channel<EmptyLoad>> Link<T, K, L> {
         self.sender.retry(repeats)
     }
 
-    // The sender gives up the message.
+    /// The sender gives up the message. Refused as `NotDue`.
     pub fn abandon(&mut self) -> Result<(), LinkRefusal>
         ensures answer { result ≡ (rule.abandon (plain K.Channel L.Channel self.old)).answer }
         ensures after { plain K.Channel L.Channel self.new
@@ -247,7 +249,7 @@ impl<T: Load, K: Channel<T>, L: Channel<EmptyLoad>> Link<T, K, L> {
         self.sender.abandon()
     }
 
-    // The message ends with a word.
+    /// The message ends with a word. Refused as `NotDue`.
     pub fn confirm(&mut self) -> Result<Word, LinkRefusal>
         ensures answer { result ≡ (rule.confirm (plain K.Channel L.Channel self.old)).answer }
         ensures after { plain K.Channel L.Channel self.new
@@ -261,7 +263,8 @@ impl<T: Load, K: Channel<T>, L: Channel<EmptyLoad>> Link<T, K, L> {
         Ok(word)
     }
 
-    // After another word than OK: the next message begins anew, and a message that was told in part is to be broken.
+    /// After another word than OK: the next message begins anew, and a message that was told in part is to be broken.
+    /// Refused as `NotDue`.
     pub fn part(&mut self) -> Result<(), LinkRefusal>
         ensures answer { result ≡ (rule.part (plain K.Channel L.Channel self.old)).answer }
         ensures after { plain K.Channel L.Channel self.new
@@ -275,7 +278,7 @@ impl<T: Load, K: Channel<T>, L: Channel<EmptyLoad>> Link<T, K, L> {
         Ok(())
     }
 
-    // The hut tells that a message was broken off.
+    /// The hut tells that a message was broken off. Refused as `NotDue`.
     pub fn tell_break(&mut self) -> Result<(), LinkRefusal>
         ensures answer { result ≡ (rule.break (plain K.Channel L.Channel self.old)).answer }
         ensures after { plain K.Channel L.Channel self.new
@@ -287,7 +290,7 @@ impl<T: Load, K: Channel<T>, L: Channel<EmptyLoad>> Link<T, K, L> {
         self.hut.tell_break()
     }
 
-    // After a part: the hut is ready, and the sender may send.
+    /// After a part: the hut is ready, and the sender may send. Refused as `NotDue`.
     pub fn meet(&mut self) -> Result<(), LinkRefusal>
         ensures answer { result ≡ (rule.meet (plain K.Channel L.Channel self.old)).answer }
         ensures after { plain K.Channel L.Channel self.new
@@ -301,7 +304,8 @@ impl<T: Load, K: Channel<T>, L: Channel<EmptyLoad>> Link<T, K, L> {
         Ok(())
     }
 
-    // The word of the last message that was confirmed, and how many of its loads the hut was told.
+    /// The word of the last message that was confirmed, and how many of its loads the hut was told. Refused as `StillOpen` or
+    /// `NoneConfirmed`.
     pub fn outcome(&self) -> Result<(Word, u32), LinkRefusal>
         ensures answer { result ≡ rule.outcome (plain K.Channel L.Channel self.now) }
         ensures law { (book : List T) (repeats : ℕ) (history : List (Event T)) →

@@ -1,4 +1,4 @@
-// Where an end stands, and what may move it.
+//! Where an end stands, and what may move it.
 
 // The sender's place.
 #[derive(Clone, Copy, Debug, PartialEq, Eq)]

@@ -1,4 +1,4 @@
-// Why a call of the link is turned down, by fixed numbers.
+//! Why a call of the link is turned down, by fixed numbers.
 ghost use Rattle.std.specs.Prelude.{◌≡◌, Some};
 ghost use Rattle.loads.specs.Refusals.{refused_text};
 ghost use Rattle.std.proofs.Common.{rules};
@@ -10,31 +10,36 @@ use loads::Refusal;
 use std::error::Error;
 use std::fmt;
 
-// Where two apply, the smaller is given.
+/// Why a call is turned down. Where two apply, the smaller is given.
 #[derive(Clone, Copy, Debug, PartialEq, Eq)]
 pub enum LinkRefusal {
+    /// A link joins once.
     AlreadyJoined = 1,
-    // Above 10.
+    /// Above 10.
     TooManyRepeats = 2,
-    // A frame waits in a channel that a link joins over.
+    /// A frame waits in a channel that a link joins over.
     ChannelHolds = 3,
+    /// Every call but join asks for a joined link.
     NotJoined = 4,
-    // A request while a message is open.
+    /// A request while a message is open.
     MessageOpen = 5,
-    // 0, or above 4,096.
+    /// 0, or above 4,096.
     BadCount = 6,
-    // The book ends before the message.
+    /// The book ends before the message.
     BeyondBook = 7,
+    /// The end's place and marks do not allow the call.
     NotDue = 8,
-    // The book that was given has no load at the place that is next.
+    /// The book that was given has no load at the place that is next.
     NoLoad = 9,
+    /// The channel that is polled is empty.
     NothingWaits = 10,
-    // A put was turned down, since a frame waits.
+    /// A put was turned down, since a frame waits.
     ChannelFull = 11,
-    // The outcome is asked for while a message is open.
+    /// The outcome is asked for while a message is open.
     StillOpen = 12,
+    /// The outcome is asked for before the first confirm.
     NoneConfirmed = 13,
-    // The log has fewer entries than there are calls.
+    /// The log has fewer entries than there are calls.
     ShortLog = 23,
 }
 

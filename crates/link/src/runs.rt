@@ -1,4 +1,4 @@
-// A list of calls on a link, and its log.
+//! A list of calls on a link, and its log.
 ghost use Rattle.std.specs.Prelude.{◌≡◌, length, map, take};
 ghost use Rattle.link.specs.declared.events.Event.{Event};
 ghost use Rattle.link.specs.States.{plain};
@@ -13,8 +13,8 @@ use channel::Channel;
 use loads::{Book, EmptyLoad, Load};
 
 impl<T: Load, K: Channel<T>, L: Channel<EmptyLoad>> Link<T, K, L> {
-    // Makes calls in order, and writes each with its answer to the front of the log. A log that is shorter than the calls is
-    // turned down, and none is made. Open: what becomes of the frames that are polled for.
+    /// Makes calls in order, and writes each with its answer to the front of the log. A log that is shorter than the calls is
+    /// turned down, and none is made. Open: what becomes of the frames that are polled for.
     pub fn run(
         &mut self,
         book: &Book<T>,

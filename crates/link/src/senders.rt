@@ -1,4 +1,4 @@
-// The sender: it sends the loads of a message one by one, each again after a loss, up to the repeats.
+//! The sender: it sends the loads of a message one by one, each again after a loss, up to the repeats.
 ghost use Rattle.std.specs.Prelude.{◌≡◌, ◌-◌, drop, option_map};
 ghost use Rattle.std.specs.List.{range_with_len};
 ghost use Rattle.channel.specs.Rows.{Row as RowLeads};
@@ -17,7 +17,7 @@ use std::ops::Range;
 // The most loads that a message has.
 const MOST_LOADS: u16 = 4096;
 
-// The mast's end.
+/// The mast's end.
 #[derive(Drop)]
 pub struct Sender {
     place: SenderPlace,
@@ -53,7 +53,7 @@ impl Model for Sender {
 }
 
 impl Sender {
-    // A sender with no message.
+    /// A sender with no message.
     pub fn new() -> Sender
         ensures answer { result ≡ sender_start }
     {
@@ -69,7 +69,7 @@ impl Sender {
         }
     }
 
-    // Whether a message is open.
+    /// Whether a message is open.
     pub fn is_open(&self) -> bool
         ensures answer { result ≡ self.now.«open» }
     {
@@ -109,7 +109,7 @@ impl Sender {
         }
     }
 
-    // Opens a message of `count` places from `start` on, in a book of so many loads.
+    /// Opens a message of `count` places from `start` on, in a book of so many loads.
     pub fn request(&mut self, loads: usize, start: u16, count: u16) -> Result<(), LinkRefusal>
         ensures answer { result ≡ answer_of (sender.request loads start count self.old) }
         ensures after { self.new ≡ after_of self.old (sender.request loads start count self.old) }
@@ -129,7 +129,7 @@ impl Sender {
         Ok(())
     }
 
-    // Gives up the message.
+    /// Gives up the message.
     pub fn abandon(&mut self) -> Result<(), LinkRefusal>
         ensures answer { result ≡ answer_of (sender.abandon self.old) }
         ensures after { self.new ≡ after_of self.old (sender.abandon self.old) }
@@ -138,7 +138,7 @@ impl Sender {
         Ok(())
     }
 
-    // After a loss: may send once more, or has to confirm where the repeats are used up.
+    /// After a loss: may send once more, or has to confirm where the repeats are used up.
     pub fn retry(&mut self, repeats: u8) -> Result<(), LinkRefusal>
         ensures answer { result ≡ answer_of (sender.retry repeats self.old) }
         ensures after { self.new ≡ after_of self.old (sender.retry repeats self.old) }
@@ -154,14 +154,14 @@ impl Sender {
         Ok(())
     }
 
-    // A frame or a reply was lost.
+    /// A frame or a reply was lost.
     pub fn miss(&mut self)
         ensures after { self.new ≡ sender.missed self.old }
     {
         self.lost = true;
     }
 
-    // After another word than OK: the next message begins anew.
+    /// After another word than OK: the next message begins anew.
     pub fn part(&mut self) -> Result<(), LinkRefusal>
         ensures answer { result ≡ answer_of (sender.part self.old) }
         ensures after { self.new ≡ after_of self.old (sender.part self.old) }
@@ -172,7 +172,7 @@ impl Sender {
         Ok(())
     }
 
-    // The hut is ready for the next message.
+    /// The hut is ready for the next message.
     pub fn meet(&mut self)
         ensures after { self.new ≡ sender.met self.old }
     {
@@ -196,7 +196,7 @@ impl Sender {
         })
     }
 
-    // Puts the next load of the book into the channel.
+    /// Puts the next load of the book into the channel.
     pub fn send<T: Load, K: Channel<T>>(
         &mut self,
         book: &Book<T>,
@@ -228,7 +228,7 @@ impl Sender {
         self.rest.next();
     }
 
-    // A reply arrived: the load is done with.
+    /// A reply arrived: the load is done with.
     pub fn take_reply(&mut self)
         ensures after { self.new ≡ sender.replied self.old }
     {
@@ -258,7 +258,7 @@ impl Sender {
         }
     }
 
-    // Ends the message, and says how.
+    /// Ends the message, and says how.
     pub fn confirm(&mut self) -> Result<Word, LinkRefusal>
         ensures answer { result ≡ answer_of (sender.confirm self.old) }
         ensures after { self.new ≡ after_of self.old (sender.confirm self.old) }

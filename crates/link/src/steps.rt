@@ -1,4 +1,4 @@
-// One call of any kind, and its answer as a log has it.
+//! One call of any kind, and its answer as a log has it.
 ghost use Rattle.std.specs.Prelude.{◌≡◌, [], ◌∷◌, OnErr};
 ghost use Rattle.link.specs.States.{plain};
 ghost use Rattle.link.specs.Laws.{StaysLawful};
@@ -37,7 +37,7 @@ impl<T: Load, K: Channel<T>, L: Channel<EmptyLoad>> Link<T, K, L> {
         Ok(Answer::Done)
     }
 
-    // Makes a call of any kind, and gives it with its answer. Open: what becomes of a frame that is polled for.
+    /// Makes a call of any kind, and gives it with its answer. Open: what becomes of a frame that is polled for.
     pub fn step(&mut self, book: &Book<T>, call: Call) -> Event<T>
         ensures called { result.call ≡ call }
         ensures open_answer { Steps K.Channel L.Channel book.now self.old result self.new }

@@ -1,4 +1,4 @@
-// The timer question, two comparisons that timers have to meet, and the most repeats of a link.
+//! The timer question, two comparisons that timers have to meet, and the most repeats of a link.
 ghost use Rattle.std.specs.Prelude.{◌≡◌, Some};
 ghost use Rattle.loads.specs.Refusals.{refused_text};
 ghost use Rattle.std.proofs.Common.{rules};
@@ -9,17 +9,17 @@ use loads::Refusal;
 use std::error::Error;
 use std::fmt;
 
-// The most repeats that a link joins with.
+/// The most repeats that a link joins with.
 pub const MOST_REPEATS: u8 = 10;
 
-// Why timers are turned down, by fixed numbers.
+/// Why timers are turned down, by fixed numbers.
 #[derive(Clone, Copy, Debug, PartialEq, Eq)]
 pub enum TimerRefusal {
-    // There are more repeats than a link joins with.
+    /// There are more repeats than a link joins with.
     TooManyRepeats = 2,
-    // t1 is not above twice the bound: a frame and its reply may both be on the way.
+    /// t1 is not above twice the bound: a frame and its reply may both be on the way.
     ShortReplyTimer = 24,
-    // t2 is not above repeats times t1: the sender may still repeat.
+    /// t2 is not above repeats times t1: the sender may still repeat.
     ShortHutTimer = 25,
 }
 
@@ -45,8 +45,8 @@ impl fmt::Display for TimerRefusal {
 
 impl Error for TimerRefusal {}
 
-// Whether timers meet two comparisons, with channels that keep a frame for at most `bound` ticks: `t1`, the sender's, is
-// above twice the bound, and `t2`, the hut's, above the time of all repeats.
+/// Whether timers meet two comparisons, with channels that keep a frame for at most `bound` ticks: `t1`, the sender's, is
+/// above twice the bound, and `t2`, the hut's, above the time of all repeats.
 pub fn timers_fit(repeats: u8, bound: u16, t1: u16, t2: u16) -> Result<(), TimerRefusal>
     ensures answer { result ≡ fit repeats bound t1 t2 }
 {

@@ -1,42 +1,42 @@
-// The words that a link gives: of a message, of a load, and of a channel.
+//! The words that a link gives: of a message, of a load, and of a channel.
 ghost use Rattle.std.specs.Prelude.{◌≡◌};
 ghost use Rattle.link.specs.Words.{word_text, position_text, heard_text};
 
-// How a message ended.
+/// How a message ended.
 #[derive(Clone, Copy, Debug, PartialEq, Eq)]
 pub enum Word {
-    // All of it was told.
+    /// All of it was told.
     Ok,
-    // Something was not.
+    /// Something was not.
     NotOk,
-    // At most the last load was not.
+    /// At most the last load was not.
     DontKnow,
 }
 
-// A load's position in its message.
+/// A load's position in its message.
 #[derive(Clone, Copy, Debug, PartialEq, Eq)]
 pub enum Position {
-    // It is the last.
+    /// It is the last.
     Ok,
-    // It is the first, and not the last.
+    /// It is the first, and not the last.
     First,
-    // It is neither.
+    /// It is neither.
     Incomplete,
 }
 
-// What became of the oldest frame in a channel.
+/// What became of the oldest frame in a channel.
 #[derive(Clone, Copy, Debug, PartialEq, Eq)]
 pub enum Heard {
-    // It goes on waiting.
+    /// It goes on waiting.
     Still,
-    // It has come through.
+    /// It has come through.
     Arrived,
-    // It is gone.
+    /// It is gone.
     Lost,
 }
 
 impl Word {
-    // The printed word.
+    /// The printed word.
     pub fn word(&self) -> &'static str
         ensures answer { result.now ≡ word_text self.now }
     {
@@ -49,7 +49,7 @@ impl Word {
 }
 
 impl Position {
-    // The printed word.
+    /// The printed word.
     pub fn word(&self) -> &'static str
         ensures answer { result.now ≡ position_text self.now }
     {
@@ -62,7 +62,7 @@ impl Position {
 }
 
 impl Heard {
-    // The printed word.
+    /// The printed word.
     pub fn word(&self) -> &'static str
         ensures answer { result.now ≡ heard_text self.now }
     {

@@ -1,4 +1,4 @@
-// The printed lines of a link.
+//! The printed lines of a link.
 
 #![tactic(auto)]
 

@@ -1,4 +1,4 @@
-// The printed lines of a link: of a call with its answer, and of an outcome.
+//! The printed lines of a link: of a call with its answer, and of an outcome.
 ghost use Rattle.std.specs.Prelude.{◌≡◌, ◌++◌, IfOk, codes, string_bytes, decimal};
 ghost use Rattle.linktext.specs.Lines.{load_text, shown_text, call_text, outcome_text};
 
@@ -59,8 +59,8 @@ fn push_number(text: &mut String, number: u8) -> Result<(), AllocError>
     write!(text, "{number}")
 }
 
-// Adds the letter of a call, the number of its answer, and what it shows if it is accepted. Open: whether there is memory
-// for them, and what of them the text has if not.
+/// Adds the letter of a call, the number of its answer, and what it shows if it is accepted. Open: whether there is memory
+/// for them, and what of them the text has if not.
 pub fn push_call<T: Load>(text: &mut String, event: &Event<T>) -> Result<(), AllocError>
     ensures made { IfOk result (λ _. string_bytes text.new
         ≡ string_bytes text.old ++ call_text T.Load event.now) }
@@ -71,7 +71,7 @@ pub fn push_call<T: Load>(text: &mut String, event: &Event<T>) -> Result<(), All
     push_shown(text, &event.answer)
 }
 
-// The same as a text of its own. Open: whether there is memory for it.
+/// The same as a text of its own. Open: whether there is memory for it.
 pub fn call_line<T: Load>(heap: Global, event: &Event<T>) -> Result<String, AllocError>
     ensures made { IfOk result (λ text. string_bytes text ≡ call_text T.Load event.now) }
 {
@@ -80,7 +80,7 @@ pub fn call_line<T: Load>(heap: Global, event: &Event<T>) -> Result<String, Allo
     Ok(text)
 }
 
-// How a message ended, and how many of its loads the hut was told. Open: whether there is memory for the text.
+/// How a message ended, and how many of its loads the hut was told. Open: whether there is memory for the text.
 pub fn outcome_line(heap: Global, word: Word, told: u32) -> Result<String, AllocError>
     ensures made { IfOk result (λ text. string_bytes text ≡ outcome_text word told) }
 {

@@ -1,4 +1,4 @@
-// Runs of call sheets, and all that they print.
+//! Runs of call sheets, and all that they print.
 
 #![tactic(auto)]
 

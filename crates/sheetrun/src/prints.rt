@@ -1,4 +1,4 @@
-// All that a sheet prints: a line for each call, or one that says why it is turned down.
+//! All that a sheet prints: a line for each call, or one that says why it is turned down.
 ghost use Rattle.std.specs.Prelude.{◌≡◌, ◌+◌, ◌<◌, length, IfOk, IfErr, string_bytes};
 ghost use Rattle.sheet.specs.AnySheets.{sheet_reads};
 ghost use Rattle.sheet.specs.Faults.{fault_text};
@@ -12,7 +12,7 @@ use loads::Load;
 use sheet::{AnySheet, MOST_OCTETS, ReadError, Sheet, SheetFault, fault_line};
 use std::alloc::{AllocError, Global};
 
-// The most octets to read as a sheet: one more than it may have, so that a longer input is seen to be too long.
+/// The most octets to read as a sheet: one more than it may have, so that a longer input is seen to be too long.
 pub fn input_limit() -> usize
     ensures answer { result ≡ most_octets + 1 }
 {
@@ -50,8 +50,8 @@ fn refused_line(heap: Global, fault: SheetFault) -> Result<String, AllocError>
     Ok(line)
 }
 
-// All that the octets of a sheet print. Open: whether there is memory for it, where they print anything, and for the records
-// of a sheet that prints nothing.
+/// All that the octets of a sheet print. Open: whether there is memory for it, where they print anything, and for the records
+/// of a sheet that prints nothing.
 pub fn sheet_lines(heap: Global, octets: &[u8]) -> Result<String, AllocError>
     ensures made { IfOk result (λ text. string_bytes text ≡ sheet_prints octets.now) }
     ensures memory { IfErr result (λ _. NeedsMemory octets.now) }

@@ -1,4 +1,4 @@
-// Runs on a link over two rains, whose marks decide what is answered.
+//! Runs on a link over two rains, whose marks decide what is answered.
 ghost use Rattle.std.specs.Prelude.{◌≡◌, ◌<◌, List, [], length, take, IfOk, IfErr, vec_items};
 ghost use Rattle.link.specs.Histories.{HistoryLeads};
 ghost use Rattle.link.specs.Laws.{StaysLawful};
@@ -12,11 +12,11 @@ use loads::{Book, EmptyLoad, Load};
 use sheet::Sheet;
 use std::alloc::{AllocError, Global};
 
-// A link over a wire to the hut and a store back, each under a rain.
+/// A link over a wire to the hut and a store back, each under a rain.
 pub type RainedLink<'m, T> = Link<T, Rain<'m, Wire<T>>, Rain<'m, Store<EmptyLoad>>>;
 
-// Makes calls in order, and writes each with its answer to the front of the log, as `Link::run`. The marks decide what
-// becomes of each frame, so nothing of it is open.
+/// Makes calls in order, and writes each with its answer to the front of the log, as `Link::run`. The marks decide what
+/// becomes of each frame, so nothing of it is open.
 pub fn run_by_marks<'m, T: Load>(
     link: &mut RainedLink<'m, T>,
     book: &Book<T>,
@@ -64,7 +64,7 @@ fn joined_link<'s, T: Load>(sheet: &Sheet<'s, T>) -> RainedLink<'s, T>
     link
 }
 
-// The calls of a sheet, each with its answer. Open: whether there is memory for them, where there are any.
+/// The calls of a sheet, each with its answer. Open: whether there is memory for them, where there are any.
 pub fn sheet_events<'s, T: Load>(
     heap: Global,
     sheet: &Sheet<'s, T>,

@@ -1,4 +1,4 @@
-// Sends a message of three readings over a link that loses a frame and a reply.
+//! Sends a message of three readings over a link that loses a frame and a reply.
 
 #![tactic(auto)]
 

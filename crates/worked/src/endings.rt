@@ -1,4 +1,4 @@
-// Short runs on a link over two rains, and how they end.
+//! Short runs on a link over two rains, and how they end.
 ghost use Rattle.std.specs.Prelude.{◌≡◌, ◌≤◌, IfOk, true, List, length, vec_items};
 ghost use Rattle.channels.specs.Marks.{good_marks, marks_of};
 ghost use Rattle.link.specs.Timers.{most_repeats};
@@ -12,12 +12,12 @@ use loads::{Book, Reading};
 use sheetrun::{RainedLink, run_by_marks};
 use std::alloc::{AllocError, Global};
 
-// How a run ended.
+/// How a run ended.
 #[derive(Clone, Copy)]
 pub struct Ending {
-    // whether every call was accepted
+    /// whether every call was accepted
     pub accepted: bool,
-    // the word of the last message, and how many of its loads the hut was told
+    /// the word of the last message, and how many of its loads the hut was told
     pub outcome: Result<(Word, u32), LinkRefusal>,
 }
 
@@ -43,7 +43,7 @@ fn all_accepted(log: &[Event<Reading>]) -> bool
     log.iter().all(|event| event.answer.is_ok())
 }
 
-// Makes the calls on such a link, and says how they end.
+/// Makes the calls on such a link, and says how they end.
 pub fn run_over(
     heap: Global,
     book: &Book<Reading>,

@@ -1,4 +1,4 @@
-// The worked examples: frames, pieces, requests, three messages, and timers.
+//! The worked examples: frames, pieces, requests, three messages, and timers.
 ghost use Rattle.std.specs.Prelude.{◌≡◌, List, length, MatchResult};
 ghost use Rattle.loads.specs.declared.faults.Fault.TheVariants.{NoMemory};
 ghost use Rattle.worked.specs.Examples.{zeros, examples, computed};
@@ -9,23 +9,23 @@ use link::{Call, Link, LinkRefusal, TimerRefusal, timers_fit};
 use loads::{Book, EmptyLoad, Fault, Frame, Piece, Reading};
 use std::alloc::{AllocError, Global};
 
-// What each of the examples comes to.
+/// What each of the examples comes to.
 pub struct Examples {
-    // a frame of reading 7, first on, last and toggle off
+    /// a frame of reading 7, first on, last and toggle off
     pub frame: [u8; 5],
-    // a reply, last and toggle on, first off
+    /// a reply, last and toggle on, first off
     pub reply: [u8; 1],
-    // at zoom 20 columns 1,048,575 and 1,048,576, and zoom 21
+    /// at zoom 20 columns 1,048,575 and 1,048,576, and zoom 21
     pub pieces: [Result<Piece, Fault>; 3],
-    // of a book of 4,096: 4,097 loads from place 0, 4,096 from place 1, 4,096 from place 0
+    /// of a book of 4,096: 4,097 loads from place 0, 4,096 from place 1, 4,096 from place 0
     pub requests: [Result<(), LinkRefusal>; 3],
-    // one load without repeats, whose frame is lost
+    /// one load without repeats, whose frame is lost
     pub lost_frame: Ending,
-    // two loads, one of them replied to, abandoned; its last calls are part and break
+    /// two loads, one of them replied to, abandoned; its last calls are part and break
     pub abandoned: Ending,
-    // one load without repeats, told, whose reply is lost; its last calls are part and meet
+    /// one load without repeats, told, whose reply is lost; its last calls are part and meet
     pub lost_reply: Ending,
-    // 2 repeats and a bound of 2 ticks: t1 of 4; t1 of 5 with t2 of 10 and of 11
+    /// 2 repeats and a bound of 2 ticks: t1 of 4; t1 of 5 with t2 of 10 and of 11
     pub timers: [Result<(), TimerRefusal>; 3],
 }
 
@@ -167,7 +167,7 @@ fn timers() -> [Result<(), TimerRefusal>; 3]
     ]
 }
 
-// All of the examples, through the calls of the library. Open: whether there is memory for the books and the logs.
+/// All of the examples, through the calls of the library. Open: whether there is memory for the books and the logs.
 pub fn worked_examples(heap: Global) -> Result<Examples, Fault>
     ensures answers { MatchResult result (λ given. given ≡ examples) (λ fault. fault ≡ NoMemory) }
     ensures definitions { computed ≡ examples }

@@ -1,4 +1,4 @@
-// The worked examples, computed by the library, as one function whose contract is all of them.
+//! The worked examples, computed by the library, as one function whose contract is all of them.
 
 #![tactic(auto)]
 
