@@ -3,8 +3,8 @@ use Rattle.std.specs.Prelude.{ℕ, List, [], ◌∷◌, Some, None, Option}
 use Rattle.loads.specs.declared.frames.Frame.{Frame}
 use Rattle.loads.specs.declared.empties.EmptyLoad.{EmptyLoad}
 use Rattle.channel.specs.declared.polls.Poll.TheVariants as answer
-use Rattle.channel.specs.declared.rows.Event.{Event}
-use Rattle.channel.specs.declared.rows.Event.TheVariants.{Poll}
+use Rattle.channel.specs.declared.rows.Used.{Used}
+use Rattle.channel.specs.declared.rows.Used.TheVariants.{Poll}
 use Rattle.link.specs.declared.calls.Call.{Call}
 use Rattle.link.specs.declared.calls.Call.TheVariants as call
 use Rattle.link.specs.declared.words.Heard.{Heard}
@@ -15,28 +15,28 @@ use Rattle.link.specs.Huts as hut
 
 module _ {T : Type 0} where
   -- a poll, by what waits and what the channel chooses for the oldest
-  abbrev pub polls : Heard → List (Frame T) → List (Event T)
+  abbrev pub polls : Heard → List (Frame T) → List (Used T)
   polls heard [] = Poll answer.Empty ∷ []
   polls Still (oldest ∷ others) = Poll answer.Still ∷ []
   polls Arrived (oldest ∷ others) = Poll (answer.Arrived oldest) ∷ []
   polls Lost (oldest ∷ others) = Poll answer.Lost ∷ []
 
   -- nothing is done where the link is not joined
-  abbrev pub if_joined : Option ℕ → List (Event T) → List (Event T)
+  abbrev pub if_joined : Option ℕ → List (Used T) → List (Used T)
   if_joined None events = []
   if_joined (Some repeats) events = events
 
 module _ {T : Type 0} where
   -- to the channel to the hut: by a send
-  abbrev pub send_does : List T → LinkState T → List (Event T)
+  abbrev pub send_does : List T → LinkState T → List (Used T)
   send_does book link = if_joined link.repeats (sender.send_puts book link.sender link.to_hut)
 
   -- by a carry
-  abbrev pub carry_does : Heard → LinkState T → List (Event T)
+  abbrev pub carry_does : Heard → LinkState T → List (Used T)
   carry_does heard link = if_joined link.repeats (polls heard link.to_hut)
 
   -- by any call
-  abbrev pub to_hut_does : List T → Heard → Call → LinkState T → List (Event T)
+  abbrev pub to_hut_does : List T → Heard → Call → LinkState T → List (Used T)
   to_hut_does book heard (call.Request start count) link = []
   to_hut_does book heard call.Send link = send_does book link
   to_hut_does book heard call.Carry link = carry_does heard link
@@ -51,15 +51,15 @@ module _ {T : Type 0} where
   to_hut_does book heard call.Meet link = []
 
   -- to the channel back: by a reply
-  abbrev pub reply_does : LinkState T → List (Event EmptyLoad)
+  abbrev pub reply_does : LinkState T → List (Used EmptyLoad)
   reply_does link = if_joined link.repeats (hut.reply_puts link.hut link.back)
 
   -- by a return
-  abbrev pub return_does : Heard → LinkState T → List (Event EmptyLoad)
+  abbrev pub return_does : Heard → LinkState T → List (Used EmptyLoad)
   return_does heard link = if_joined link.repeats (polls heard link.back)
 
   -- by any call
-  abbrev pub back_does : Heard → Call → LinkState T → List (Event EmptyLoad)
+  abbrev pub back_does : Heard → Call → LinkState T → List (Used EmptyLoad)
   back_does heard (call.Request start count) link = []
   back_does heard call.Send link = []
   back_does heard call.Carry link = []

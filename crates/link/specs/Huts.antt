@@ -2,8 +2,8 @@
 use Rattle.std.specs.Prelude.{Bool, true, false, cond, not, ◌&&◌, List, [], ◌∷◌, Ok, Err, Result, Some, None, Option}
 use Rattle.loads.specs.declared.frames.Frame.{Frame}
 use Rattle.loads.specs.declared.empties.EmptyLoad.{EmptyLoad}
-use Rattle.channel.specs.declared.rows.Event.{Event}
-use Rattle.channel.specs.declared.rows.Event.TheVariants.{Put}
+use Rattle.channel.specs.declared.rows.Used.{Used}
+use Rattle.channel.specs.declared.rows.Used.TheVariants.{Put}
 use Rattle.channel.specs.Rules.{put_answer}
 use Rattle.link.specs.declared.places.HutPlace.{HutPlace}
 use Rattle.link.specs.declared.places.HutPlace.TheVariants.{AwaitsFrame, ToTell, ToReply, ToReplyAgain, ToTellBreak}
@@ -125,12 +125,12 @@ module _ {T : Type 0} where
   reply hut waiting = reply_frame (next_place Reply hut) hut.held hut waiting
 
   -- the put that a reply makes of its channel, if it comes to one
-  abbrev pub reply_puts_at : Result HutPlace LinkRefusal → Option (Frame T) → List (Frame EmptyLoad) → List (Event EmptyLoad)
+  abbrev pub reply_puts_at : Result HutPlace LinkRefusal → Option (Frame T) → List (Frame EmptyLoad) → List (Used EmptyLoad)
   reply_puts_at (Ok place) (Some frame) waiting = Put (reply_to frame) (put_answer waiting) ∷ []
   reply_puts_at (Ok place) None waiting = []
   reply_puts_at (Err why) held waiting = []
 
-  abbrev pub reply_puts : HutState T → List (Frame EmptyLoad) → List (Event EmptyLoad)
+  abbrev pub reply_puts : HutState T → List (Frame EmptyLoad) → List (Used EmptyLoad)
   reply_puts hut waiting = reply_puts_at (next_place Reply hut) hut.held waiting
 
   -- part: with the timer on, toggles are no longer compared, and a message that was told in part is to be broken

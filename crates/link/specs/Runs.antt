@@ -2,7 +2,7 @@
 use Rattle.std.specs.Prelude.{◌≡◌, ℕ, cond, nat_lt, List, [], ◌∷◌, length, take, drop, Ok, Err, Result}
 use Rattle.loads.specs.declared.empties.EmptyLoad.{EmptyLoad}
 use Rattle.channel.specs.declared.rules.Channel.{Ghosts}
-use Rattle.channel.specs.Rows.{Row}
+use Rattle.channel.specs.Rows.{RowLeads}
 use Rattle.link.specs.declared.calls.Call.{Call}
 use Rattle.link.specs.declared.events.Event.{Event}
 use Rattle.link.specs.declared.refusals.LinkRefusal.{LinkRefusal}
@@ -16,8 +16,8 @@ module _ {T K L : Type 0} (k : Ghosts K T) (l : Ghosts L EmptyLoad) (book : List
   abbrev pub Stepped : LinkParts T K L → Event T → LinkParts T K L → Type 0
   Stepped before event after =
       Step book (plain k l before) event (plain k l after)
-      × Row k before.to_hut (to_hut_does book (choice event.answer) event.call (plain k l before)) after.to_hut
-      × Row l before.back (back_does (choice event.answer) event.call (plain k l before)) after.back
+      × RowLeads k before.to_hut (to_hut_does book (choice event.answer) event.call (plain k l before)) after.to_hut
+      × RowLeads l before.back (back_does (choice event.answer) event.call (plain k l before)) after.back
 
   -- calls one after another
   abbrev pub Runs : LinkParts T K L → List (Event T) → LinkParts T K L → Type 0

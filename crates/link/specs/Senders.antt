@@ -2,8 +2,8 @@
 use Rattle.std.specs.Prelude.{ℕ, suc, zero, ◌+◌, ◌%◌, ◌^◌, Bool, true, false, cond, not, ◌&&◌, ◌||◌, List, [], ◌∷◌, drop, Ok, Err, Result, Some, None, Option, ◌==◌, nat_le, nat_lt}
 use Rattle.std.specs.List.{slice_get}
 use Rattle.loads.specs.declared.frames.Frame.{Frame}
-use Rattle.channel.specs.declared.rows.Event.{Event}
-use Rattle.channel.specs.declared.rows.Event.TheVariants.{Put}
+use Rattle.channel.specs.declared.rows.Used.{Used}
+use Rattle.channel.specs.declared.rows.Used.TheVariants.{Put}
 use Rattle.channel.specs.Rules.{put_answer}
 use Rattle.link.specs.declared.places.SenderPlace.{SenderPlace}
 use Rattle.link.specs.declared.places.SenderPlace.TheVariants.{ToSend, AwaitsReply, ToConfirm, ToPart, ToMeet}
@@ -113,12 +113,12 @@ module _ {T : Type 0} where
   send book sender waiting = send_at (next_place Send sender) book sender waiting
 
   -- the put that a send makes of its channel, if it comes to one
-  abbrev pub send_puts_at : Result SenderPlace LinkRefusal → Option T → SenderState → List (Frame T) → List (Event T)
+  abbrev pub send_puts_at : Result SenderPlace LinkRefusal → Option T → SenderState → List (Frame T) → List (Used T)
   send_puts_at (Ok place) (Some load) sender waiting = Put (frame_of sender load) (put_answer waiting) ∷ []
   send_puts_at (Ok place) None sender waiting = []
   send_puts_at (Err why) load sender waiting = []
 
-  abbrev pub send_puts : List T → SenderState → List (Frame T) → List (Event T)
+  abbrev pub send_puts : List T → SenderState → List (Frame T) → List (Used T)
   send_puts book sender waiting = send_puts_at (next_place Send sender) (first_load book sender.rest) sender waiting
 
 -- a frame or a reply was lost

@@ -1,7 +1,7 @@
 // The hut's end: it holds a frame, tells its load, and replies.
 ghost use Rattle.std.specs.Prelude.{◌≡◌};
 ghost use Rattle.loads.specs.declared.frames.Frame.{Frame};
-ghost use Rattle.channel.specs.Rows.{Row};
+ghost use Rattle.channel.specs.Rows.{RowLeads};
 ghost use Rattle.link.specs.States.{HutState, hut_start};
 ghost use Rattle.link.specs.Huts as hut;
 
@@ -126,7 +126,7 @@ impl<T: Copy> Hut<T> {
         ensures answer { result ≡ (hut.reply self.old (L.waiting channel.old)).0 }
         ensures after { self.new ≡ (hut.reply self.old (L.waiting channel.old)).1 }
         ensures waiting { L.waiting channel.new ≡ (hut.reply self.old (L.waiting channel.old)).2 }
-        ensures puts { Row L.Channel channel.old (hut.reply_puts self.old (L.waiting channel.old)) channel.new }
+        ensures puts { RowLeads L.Channel channel.old (hut.reply_puts self.old (L.waiting channel.old)) channel.new }
     {
         let place = self.next_place(HutEvent::Reply)?;
         let frame = self.held.ok_or(LinkRefusal::NotDue)?;

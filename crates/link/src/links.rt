@@ -4,7 +4,7 @@ ghost use Rattle.std.specs.Option.{ok_or};
 ghost use Rattle.link.specs.declared.refusals.LinkRefusal.TheVariants.{NotJoined};
 ghost use Rattle.loads.specs.declared.empties.EmptyLoad.{EmptyLoad};
 ghost use Rattle.link.specs.States.{LinkParts, plain, sender_start, hut_start};
-ghost use Rattle.channel.specs.Rows.{Row};
+ghost use Rattle.channel.specs.Rows.{RowLeads};
 ghost use Rattle.link.specs.Doings.{send_does, carry_does, reply_does, return_does};
 ghost use Rattle.link.specs.Rules as rule;
 ghost use Rattle.link.specs.declared.events.Event.{Event};
@@ -115,7 +115,7 @@ impl<T: Load, K: Channel<T>, L: Channel<EmptyLoad>> Link<T, K, L> {
     pub fn send(&mut self, book: &Book<T>) -> Result<(), LinkRefusal>
         ensures answer { result ≡ (rule.send book.now (plain K.Channel L.Channel self.old)).0 }
         ensures after { plain K.Channel L.Channel self.new ≡ (rule.send book.now (plain K.Channel L.Channel self.old)).1 }
-        ensures channels { Row K.Channel self.old.to_hut (send_does book.now (plain K.Channel L.Channel self.old)) self.new.to_hut × (self.new.back ≡ self.old.back) }
+        ensures channels { RowLeads K.Channel self.old.to_hut (send_does book.now (plain K.Channel L.Channel self.old)) self.new.to_hut × (self.new.back ≡ self.old.back) }
         ensures step { Step book.now (plain K.Channel L.Channel self.old) (rule.event_of call.Send (λ _. Done) result) (plain K.Channel L.Channel self.new) }
     {
         self.joined()?;
@@ -126,7 +126,7 @@ impl<T: Load, K: Channel<T>, L: Channel<EmptyLoad>> Link<T, K, L> {
     pub fn carry(&mut self) -> Result<Heard, LinkRefusal>
         ensures open_answer { result ≡ (rule.carry (rule.heard_in result) (plain K.Channel L.Channel self.old)).0 }
         ensures after { plain K.Channel L.Channel self.new ≡ (rule.carry (rule.heard_in result) (plain K.Channel L.Channel self.old)).1 }
-        ensures channels { Row K.Channel self.old.to_hut (carry_does (rule.heard_in result) (plain K.Channel L.Channel self.old)) self.new.to_hut × (self.new.back ≡ self.old.back) }
+        ensures channels { RowLeads K.Channel self.old.to_hut (carry_does (rule.heard_in result) (plain K.Channel L.Channel self.old)) self.new.to_hut × (self.new.back ≡ self.old.back) }
         ensures step { (book : List T) → Step book (plain K.Channel L.Channel self.old) (rule.event_of call.Carry Polled result) (plain K.Channel L.Channel self.new) }
     {
         self.joined()?;
@@ -161,7 +161,7 @@ impl<T: Load, K: Channel<T>, L: Channel<EmptyLoad>> Link<T, K, L> {
     pub fn reply(&mut self) -> Result<(), LinkRefusal>
         ensures answer { result ≡ (rule.reply (plain K.Channel L.Channel self.old)).0 }
         ensures after { plain K.Channel L.Channel self.new ≡ (rule.reply (plain K.Channel L.Channel self.old)).1 }
-        ensures channels { (self.new.to_hut ≡ self.old.to_hut) × Row L.Channel self.old.back (reply_does (plain K.Channel L.Channel self.old)) self.new.back }
+        ensures channels { (self.new.to_hut ≡ self.old.to_hut) × RowLeads L.Channel self.old.back (reply_does (plain K.Channel L.Channel self.old)) self.new.back }
         ensures step { (book : List T) → Step book (plain K.Channel L.Channel self.old) (rule.event_of call.Reply (λ _. Done) result) (plain K.Channel L.Channel self.new) }
     {
         self.joined()?;
@@ -172,7 +172,7 @@ impl<T: Load, K: Channel<T>, L: Channel<EmptyLoad>> Link<T, K, L> {
     pub fn return_reply(&mut self) -> Result<Heard, LinkRefusal>
         ensures open_answer { result ≡ (rule.return (rule.heard_in result) (plain K.Channel L.Channel self.old)).0 }
         ensures after { plain K.Channel L.Channel self.new ≡ (rule.return (rule.heard_in result) (plain K.Channel L.Channel self.old)).1 }
-        ensures channels { (self.new.to_hut ≡ self.old.to_hut) × Row L.Channel self.old.back (return_does (rule.heard_in result) (plain K.Channel L.Channel self.old)) self.new.back }
+        ensures channels { (self.new.to_hut ≡ self.old.to_hut) × RowLeads L.Channel self.old.back (return_does (rule.heard_in result) (plain K.Channel L.Channel self.old)) self.new.back }
         ensures step { (book : List T) → Step book (plain K.Channel L.Channel self.old) (rule.event_of call.Return Polled result) (plain K.Channel L.Channel self.new) }
     {
         self.joined()?;

@@ -1,6 +1,6 @@
 // The sender: it sends the loads of a message one by one, each again after a loss, up to the repeats.
 ghost use Rattle.std.specs.Prelude.{◌≡◌, ◌-◌, drop, option_map};
-ghost use Rattle.channel.specs.Rows.{Row};
+ghost use Rattle.channel.specs.Rows.{RowLeads};
 ghost use Rattle.link.specs.States.{SenderState, sender_start};
 ghost use Rattle.link.specs.Senders as sender;
 
@@ -193,7 +193,7 @@ impl Sender {
         ensures answer { result ≡ (sender.send book.now self.old (K.waiting channel.old)).0 }
         ensures after { self.new ≡ (sender.send book.now self.old (K.waiting channel.old)).1 }
         ensures waiting { K.waiting channel.new ≡ (sender.send book.now self.old (K.waiting channel.old)).2 }
-        ensures puts { Row K.Channel channel.old (sender.send_puts book.now self.old (K.waiting channel.old)) channel.new }
+        ensures puts { RowLeads K.Channel channel.old (sender.send_puts book.now self.old (K.waiting channel.old)) channel.new }
     {
         let place = self.next_place(SenderEvent::Send)?;
         let frame = self.frame(book).ok_or(LinkRefusal::NoLoad)?;

@@ -3,8 +3,8 @@ use Rattle.std.proofs.Common.{◌≡◌, Bool, true, false, List, [], ◌∷◌,
 use Rattle.loads.specs.declared.frames.Frame.{Frame}
 use Rattle.channel.specs.declared.polls.Poll.{Poll}
 use Rattle.channel.specs.declared.polls.Poll.TheVariants as answer
-use Rattle.channel.specs.declared.rows.Event.TheVariants as row
-use Rattle.channel.specs.Rows.{Row}
+use Rattle.channel.specs.declared.rows.Used.TheVariants as row
+use Rattle.channel.specs.Rows.{RowLeads}
 use Rattle.channel.specs.Rules.{held}
 use Rattle.channels.specs.declared.marks.Mark.{Mark}
 use Rattle.channels.specs.declared.marks.Mark.TheVariants.{Pass, Lose, Delay}
@@ -66,7 +66,7 @@ module _ {T C : Type 0} (waits : C → List (Frame T)) where
 
   -- what a call of a link does to a rain: the mark decides what is heard, if a frame waits
   pub polls_marked : (waiting : List (Frame T)) (heard : Heard) (before after : RainState C) → waits before.below ≡ waiting
-      → Row (rains (singles waits)) before (polls heard waiting) after
+      → RowLeads (rains (singles waits)) before (polls heard waiting) after
       → (held waiting ≡ true → heard ≡ heard_by_mark before.mark) × (rain_marks after ≡ after_poll (held waiting) (rain_marks before))
   polls_marked [] heard before after none (between, step, row) =
       ((λ some. search rules), ap rain_marks row ∙ polled_empty before.mark before between refl (rw none at step.2))

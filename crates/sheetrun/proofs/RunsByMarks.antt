@@ -3,8 +3,8 @@ use Rattle.std.proofs.Common.{◌≡◌, ℕ, Bool, true, List, [], ◌∷◌, m
 use Rattle.loads.specs.declared.frames.Frame.{Frame}
 use Rattle.loads.specs.declared.empties.EmptyLoad.{EmptyLoad}
 use Rattle.channel.specs.declared.rules.Channel.{Ghosts}
-use Rattle.channel.specs.declared.rows.Event.TheVariants as row
-use Rattle.channel.specs.Rows.{Row}
+use Rattle.channel.specs.declared.rows.Used.TheVariants as row
+use Rattle.channel.specs.Rows.{RowLeads}
 use Rattle.channel.specs.Rules.{held}
 use Rattle.channels.specs.Rains.{RainState, rains}
 use Rattle.channels.specs.Singles.{singles}
@@ -43,7 +43,7 @@ module _ {T X C : Type 0} (waits : C → List (Frame X)) (link : LinkState T) (p
   pub polled_by : (repeats : Option ℕ) (waiting : List (Frame X)) (heard : Heard) (before after : RainState C)
       → ((heard : Heard) → poll [] heard ≡ (Err NothingWaits, link))
       → ((oldest : Frame X) (others : List (Frame X)) (heard : Heard) → (poll (oldest ∷ others) heard).0 ≡ Ok heard)
-      → waits before.below ≡ waiting → Row (rains (singles waits)) before (if_joined repeats (polls heard waiting)) after
+      → waits before.below ≡ waiting → RowLeads (rains (singles waits)) before (if_joined repeats (polls heard waiting)) after
       → (outcome repeats waiting heard ≡ outcome repeats waiting (heard_by_mark before.mark))
       × (rain_marks after ≡ marks_if_accepted marks_after_poll (shown Polled (outcome repeats waiting (heard_by_mark before.mark))).0 (rain_marks before))
   polled_by None waiting heard before after none some is row = (refl, ap rain_marks row)
@@ -69,7 +69,7 @@ return_hears oldest others Lost link = refl
 
 -- a put, by whether a frame waits
 put_by : {T C : Type 0} (waits : C → List (Frame T)) (holding : Bool) (frame : Frame T) (answer : Result (Unit {0}) Full) (before after : RainState C) → held (waits before.below) ≡ holding
-    → Row (rains (singles waits)) before (row.Put frame answer ∷ []) after → rain_marks after ≡ after_put holding (rain_marks before)
+    → RowLeads (rains (singles waits)) before (row.Put frame answer ∷ []) after → rain_marks after ≡ after_put holding (rain_marks before)
 put_by waits holding frame answer before after is (between, step, last) =
     ap rain_marks last
     ∙ put_marks waits (held (waits before.below)) frame before between step.1.1
@@ -78,7 +78,7 @@ put_by waits holding frame answer before after is (between, step, last) =
 -- a send and a reply take a mark if they are accepted
 send_by : {T C : Type 0} (waits : C → List (Frame T)) (repeats : Option ℕ) (place : Result SenderPlace LinkRefusal) (load : Option T) (waiting : List (Frame T)) (book : List T) (link : LinkState T)
     (before after : RainState C) → first_load book link.sender.rest ≡ load → waits before.below ≡ waiting
-    → Row (rains (singles waits)) before (if_joined repeats (send_puts_at place load link.sender waiting)) after
+    → RowLeads (rains (singles waits)) before (if_joined repeats (send_puts_at place load link.sender waiting)) after
     → rain_marks after ≡ marks_if_accepted marks_after_put (shown (λ _. Done) (joined_at repeats link (λ _. by_sender_to_hut link (send_at place book link.sender waiting)))).0 (rain_marks before)
 send_by waits None place load waiting book link before after has is row = ap rain_marks row
 send_by waits (Some n) (Err why) load waiting book link before after has is row = ap rain_marks row
@@ -88,7 +88,7 @@ send_by waits (Some n) (Ok place) (Some load) (oldest ∷ others) book link befo
 
 reply_by : {T C : Type 0} (waits : C → List (Frame EmptyLoad)) (repeats : Option ℕ) (place : Result HutPlace LinkRefusal) (frame : Option (Frame T)) (waiting : List (Frame EmptyLoad)) (link : LinkState T)
     (before after : RainState C) → waits before.below ≡ waiting
-    → Row (rains (singles waits)) before (if_joined repeats (reply_puts_at place frame waiting)) after
+    → RowLeads (rains (singles waits)) before (if_joined repeats (reply_puts_at place frame waiting)) after
     → rain_marks after ≡ marks_if_accepted marks_after_put (shown {T = T} (λ _. Done) (joined_at repeats link (λ _. by_hut_back link (reply_frame place frame link.hut waiting)))).0 (rain_marks before)
 reply_by waits None place frame waiting link before after is row = ap rain_marks row
 reply_by waits (Some n) (Err why) frame waiting link before after is row = ap rain_marks row
