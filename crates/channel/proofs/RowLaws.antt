@@ -13,11 +13,14 @@ use Rattle.channel.specs.Rows.{UseLeads, RowLeads, IsConserved}
 
 module _ {T : Type 0} where
   -- a put in front
-  put_first : (before between after : List (Frame T)) (frame : Frame T) (answer : Result (Unit {0}) Full) (row : List (Used T))
+  put_first : (before between after : List (Frame T)) (frame : Frame T)
+      (answer : Result (Unit {0}) Full) (row : List (Used T))
       → answer ≡ put_answer before → between ≡ put_leaves before frame
       → IsConserved between row after → IsConserved before (Put frame answer ∷ row) after
-  put_first [] between after frame answer row said left (gone, went, kept) = (gone, went, rw said (cc))
-  put_first (oldest ∷ others) between after frame answer row said left (gone, went, kept) = (gone, went, rw said (cc))
+  put_first [] between after frame answer row said left (gone, went, kept) =
+      (gone, went, rw said (cc))
+  put_first (oldest ∷ others) between after frame answer row said left (gone, went, kept) =
+      (gone, went, rw said (cc))
 
   -- a poll in front
   poll_first : (before between after : List (Frame T)) (answer : Poll T) (row : List (Used T))
@@ -26,9 +29,11 @@ module _ {T : Type 0} where
   poll_first before between after Empty row may left (gone, went, kept) = (gone, went, cc)
   poll_first before between after Still row may left (gone, went, kept) = (gone, went, cc)
   poll_first [] between after (Arrived frame) row may left rest = absurd may
-  poll_first (oldest ∷ others) between after (Arrived frame) row may left (gone, went, kept) = (frame ∷ gone, (refl, went), cc)
+  poll_first (oldest ∷ others) between after (Arrived frame) row may left (gone, went, kept) =
+      (frame ∷ gone, (refl, went), cc)
   poll_first [] between after Lost row may left rest = absurd may
-  poll_first (oldest ∷ others) between after Lost row may left (gone, went, kept) = (oldest ∷ gone, went, cc)
+  poll_first (oldest ∷ others) between after Lost row may left (gone, went, kept) =
+      (oldest ∷ gone, went, cc)
 
 module _ {T C : Type 0} (channel : Ghosts C T) where
   -- one use more at the end of a row
@@ -41,7 +46,8 @@ module _ {T C : Type 0} (channel : Ghosts C T) where
 
   -- the rule alone gives the law
   pub row_conserves : (before after : C) (row : List (Used T))
-      → RowLeads channel before row after → IsConserved (channel.waiting before) row (channel.waiting after)
+      → RowLeads channel before row after
+      → IsConserved (channel.waiting before) row (channel.waiting after)
   row_conserves before after [] leads = ([], tt, cc (append-nil (channel.waiting before)))
   row_conserves before after (Put frame answer ∷ row) (next, stepped, leads) =
       put_first _ _ _ _ _ row stepped.0 stepped.1.0 (row_conserves next after row leads)

@@ -1,4 +1,4 @@
--- What is known of any channel's put and poll: what the rule says, and what its implementation says besides.
+-- What is known of any channel's put and poll: what the rule and its implementation say.
 use Rattle.std.specs.Prelude.{◌≡◌}
 use Rattle.loads.specs.declared.frames.Frame.{Frame}
 use Rattle.channel.specs.declared.polls.Poll.{Poll}

@@ -17,7 +17,8 @@ use_of (Put frame answer) = PutUse frame
 use_of (Polled answer) = PollUse
 
 module _ {T C : Type 0} (channel : Ghosts C T) where
-  -- a use with its answer leads from a channel to what is left of it: by the rule, and as the implementation itself says
+  -- a use with its answer leads from a channel to what is left of it: by the rule, and as the
+  -- implementation says
   abbrev pub UseLeads : C → Used T → C → Type 0
   UseLeads before (Put frame answer) after =
       (answer ≡ put_answer (channel.waiting before)) × Puts channel before frame after
@@ -45,8 +46,10 @@ module _ {T : Type 0} where
   HaveLeft (Polled Lost ∷ row) (oldest ∷ gone) = HaveLeft row gone
   HaveLeft row gone = ⊥
 
-  -- no frame is made up, doubled or out of order: what arrived and what was lost, in order, followed by what waits after
-  -- the row, is what waited before it followed by what was accepted
+  -- no frame is made up, doubled or out of order: what arrived and what was lost, in order, followed
+  -- by what waits after the row, is what waited before it followed by what was accepted
   abbrev pub IsConserved : List (Frame T) → List (Used T) → List (Frame T) → Type 0
   IsConserved before row after =
-      (gone : List (Frame T)) × HaveLeft row gone × (gone ++ after ≡ before ++ filter_map accepted_frame row)
+      (gone : List (Frame T))
+      × HaveLeft row gone
+      × (gone ++ after ≡ before ++ filter_map accepted_frame row)

@@ -1,4 +1,4 @@
--- The channel rule: what put, poll and holds answer and leave, by the list of frames that wait, oldest first.
+-- The channel rule: what put, poll and holds answer and leave, by the frames that wait, oldest first.
 use Rattle.std.specs.Prelude.{◌≡◌, Bool, true, false, List, [], ◌∷◌, drop, Ok, Err, Result}
 use Rattle.loads.specs.declared.frames.Frame.{Frame}
 use Rattle.channel.specs.declared.polls.Poll.{Poll}
@@ -16,7 +16,7 @@ module _ {T : Type 0} where
   put_leaves [] frame = frame ∷ []
   put_leaves waiting frame = waiting
 
-  -- the answers that a poll may give: Empty where nothing waits; else Still, or Arrived with the oldest, or Lost
+  -- what a poll may answer: Empty where nothing waits; else Still, Arrived with the oldest, or Lost
   abbrev pub IsAllowed : List (Frame T) → Poll T → Type 0
   IsAllowed [] Empty = Unit {0}
   IsAllowed (oldest ∷ others) Still = Unit {0}

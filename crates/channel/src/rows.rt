@@ -51,7 +51,8 @@ pub fn make_uses<T: Copy, C: Channel<T>>(
     ensures made { map use_of (take result log.new) ≡ take result uses.now }
     ensures later { drop result log.new ≡ drop result log.old }
     ensures open_answers { RowLeads C.Channel channel.old (take result log.new) channel.new }
-    ensures conserved { IsConserved (C.waiting channel.old) (take result log.new) (C.waiting channel.new) }
+    ensures conserved { IsConserved
+        (C.waiting channel.old) (take result log.new) (C.waiting channel.new) }
 {
     let count = uses.len().min(log.len());
     // by place in the log, since of a `zip` with its `iter_mut` nothing says what the log ends as

@@ -24,7 +24,8 @@ module _ {T N F : Type 0} (near : Ghosts N T) (far : Ghosts F T) where
   HopPuts false before frame after =
       Puts near before.near frame after.near × (after.far ≡ before.far)
 
-  -- what comes of near's answer: a frame that arrived moves into far and the hop answers Still; any other is passed on
+  -- what comes of near's answer: a frame that arrived moves into far and the hop answers Still; any
+  -- other is passed on
   abbrev pub HopMoves : Poll T → F → Poll T → F → Type 0
   HopMoves (Arrived frame) before answer after = (answer ≡ Still) × Puts far before frame after
   HopMoves heard before answer after = (answer ≡ heard) × (after ≡ before)

@@ -29,7 +29,8 @@ pub fn frame_line(heap: Global, label: &str, octets: &[u8]) -> Result<String, Al
     format!(in heap; "{label} {hexadecimals}: {text}")
 }
 
-// Changes the octet at a place, where there is one: two parameters, as callers of `frame_lines` give them.
+// Changes the octet at a place, where there is one: two parameters, as callers of `frame_lines` give
+// them.
 fn change(octets: &mut [u8], place: usize, octet: u8)
     ensures after { octets.new ≡ slice_set octets.old place octet }
 {

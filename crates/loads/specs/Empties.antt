@@ -23,5 +23,9 @@ empty_reads octets = if length octets == empty_size then Ok (record {}) else Err
 
 -- the kind as a whole
 abbrev pub empties : Ghosts EmptyLoad
-empties =
-    record { KIND = empty_kind; SIZE = empty_size; spelled = empty_spelled; reads = empty_reads }
+empties = record {
+  KIND = empty_kind;
+  SIZE = empty_size;
+  spelled = empty_spelled;
+  reads = empty_reads;
+}

@@ -19,13 +19,14 @@ field at size octets = value_of (take size (drop at octets))
 
 -- a writer's answer: refused where the buffer is shorter than the octets
 abbrev pub write_answer : List ℕ → List ℕ → Result (Unit {0}) Fault
-write_answer octets buffer = if nat_le (length octets) (length buffer) then Ok tt else Err WrongLength
+write_answer octets buffer =
+    if nat_le (length octets) (length buffer) then Ok tt else Err WrongLength
 
--- a writer's buffer after it: the octets at its front and the rest as before; refused, all as before
+-- what a writer leaves of its buffer: the octets at the front and the rest as before; refused, all as before
 abbrev pub write_leaves : List ℕ → List ℕ → List ℕ
 write_leaves octets buffer =
     if nat_le (length octets) (length buffer) then octets ++ drop (length octets) buffer else buffer
 
--- a value of `size` octets, written into a buffer and read from its front: itself, or refused for want of room
+-- a value of `size` octets, written into a buffer and read back: itself, or refused for want of room
 abbrev pub round_trip : {X : Type 0} → ℕ → X → List ℕ → Result X Fault
 round_trip size value buffer = if nat_le size (length buffer) then Ok value else Err WrongLength

@@ -43,10 +43,19 @@ piece_spelled x =
 abbrev pub piece_reads : List ℕ → Result Piece Fault
 piece_reads octets =
     if length octets == piece_size
-    then piece_of (slice_index octets 0) (field 1 4 octets) (field 5 4 octets) (field 9 2 octets) (field 11 8 octets)
+    then piece_of
+    (slice_index octets 0)
+    (field 1 4 octets)
+    (field 5 4 octets)
+    (field 9 2 octets)
+    (field 11 8 octets)
     else Err WrongLength
 
 -- the kind as a whole
 abbrev pub pieces : Ghosts Piece
-pieces =
-    record { KIND = piece_kind; SIZE = piece_size; spelled = piece_spelled; reads = piece_reads }
+pieces = record {
+  KIND = piece_kind;
+  SIZE = piece_size;
+  spelled = piece_spelled;
+  reads = piece_reads;
+}

@@ -21,9 +21,15 @@ reading_spelled x = octets_of 4 x.value
 -- octets of that number read as the reading of their value
 abbrev pub reading_reads : List ℕ → Result Reading Fault
 reading_reads octets =
-    if length octets == reading_size then Ok (record { value = value_of octets }) else Err WrongLength
+    if length octets == reading_size
+    then Ok (record { value = value_of octets })
+    else Err WrongLength
 
 -- the kind as a whole
 abbrev pub readings : Ghosts Reading
-readings =
-    record { KIND = reading_kind; SIZE = reading_size; spelled = reading_spelled; reads = reading_reads }
+readings = record {
+  KIND = reading_kind;
+  SIZE = reading_size;
+  spelled = reading_spelled;
+  reads = reading_reads;
+}

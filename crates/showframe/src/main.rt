@@ -1,6 +1,6 @@
-//! Writes frames and shows what their octets read back as and how a damaged copy is turned down, and
-//! then does the same with the octets of standard input. Each worked frame has a function, since its
-//! contract has the octets written out.
+//! Writes frames and shows what their octets read back as and how a damaged copy is turned down,
+//! and then does the same with the octets of standard input. Each worked frame has a function,
+//! since its contract has the octets written out.
 
 #![tactic(auto)]
 

@@ -5,7 +5,8 @@ use Rattle.channel.specs.declared.polls.Poll.TheVariants.{Empty, Still, Arrived,
 use Rattle.channel.specs.declared.rows.Used.{Used}
 use Rattle.channel.specs.declared.rows.Used.TheVariants.{Put, Poll as Polled}
 
--- a frame that the rain loses once: it moves along the hop, is lost, is put again, moves along and arrives
+-- a frame that the rain loses once: it moves along the hop, is lost, is put again, moves along and
+-- arrives
 abbrev pub lost_once : {T : Type 0} → Frame T → List (Used T)
 lost_once frame =
     Put frame (Ok tt) ∷ Polled Still ∷ Polled Lost
