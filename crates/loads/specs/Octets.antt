@@ -5,9 +5,9 @@ use Rattle.loads.specs.declared.faults.Fault.{Fault}
 use Rattle.loads.specs.declared.faults.Fault.TheVariants.{WrongLength}
 
 -- a number in so many octets, highest first; the first takes all that the others leave
-abbrev pub octets_of : ℕ → ℕ → List ℕ
-octets_of zero n = []
-octets_of (suc k) n = (n / 256 ^ k) ∷ octets_of k (n % 256 ^ k)
+abbrev pub number_octets : ℕ → ℕ → List ℕ
+number_octets zero n = []
+number_octets (suc k) n = (n / 256 ^ k) ∷ number_octets k (n % 256 ^ k)
 
 -- the number that octets spell, highest first
 abbrev pub value_of : List ℕ → ℕ

@@ -5,7 +5,7 @@ use Rattle.loads.specs.declared.kinds.Load.{Ghosts}
 use Rattle.loads.specs.declared.faults.Fault.TheVariants.{WrongLength, OutsideRanges}
 use Rattle.loads.specs.declared.pieces.Piece.{Piece}
 use Rattle.loads.specs.Maps.{on_map}
-use Rattle.loads.specs.Octets.{octets_of, field}
+use Rattle.loads.specs.Octets.{number_octets, field}
 
 -- the number of the kind
 abbrev pub piece_kind : ℕ
@@ -37,7 +37,7 @@ piece_of zoom column row number body =
 -- a piece is spelled field by field
 abbrev pub piece_spelled : Piece → List ℕ
 piece_spelled x =
-    x.zoom ∷ octets_of 4 x.column ++ octets_of 4 x.row ++ octets_of 2 x.number ++ octets_of 8 x.body
+    x.zoom ∷ number_octets 4 x.column ++ number_octets 4 x.row ++ number_octets 2 x.number ++ number_octets 8 x.body
 
 -- octets of that number read as the piece of their fields
 abbrev pub piece_reads : List ℕ → Result Piece Fault

@@ -4,7 +4,7 @@ use Rattle.loads.specs.declared.faults.Fault.{Fault}
 use Rattle.loads.specs.declared.kinds.Load.{Ghosts}
 use Rattle.loads.specs.declared.faults.Fault.TheVariants.{WrongLength}
 use Rattle.loads.specs.declared.readings.Reading.{Reading}
-use Rattle.loads.specs.Octets.{octets_of, value_of}
+use Rattle.loads.specs.Octets.{number_octets, value_of}
 
 -- the number of the kind
 abbrev pub reading_kind : ℕ
@@ -16,7 +16,7 @@ reading_size = 4
 
 -- a reading is spelled as its value
 abbrev pub reading_spelled : Reading → List ℕ
-reading_spelled x = octets_of 4 x.value
+reading_spelled x = number_octets 4 x.value
 
 -- octets of that number read as the reading of their value
 abbrev pub reading_reads : List ℕ → Result Reading Fault
