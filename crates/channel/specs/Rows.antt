@@ -1,5 +1,5 @@
 -- A row of puts and polls on one channel, each with its answer.
-use Rattle.std.specs.Prelude.{◌≡◌, List, [], ◌∷◌, ◌++◌, Ok, Some, None, Option}
+use Rattle.std.specs.Prelude.{◌≡◌, List, [], ◌∷◌, ◌++◌, Ok, Some, None, Option, ⊤}
 use Rattle.std.specs.List.{filter_map}
 use Rattle.loads.specs.declared.frames.Frame.{Frame}
 use Rattle.channel.specs.declared.polls.Poll.TheVariants.{Empty, Still, Arrived, Lost}
@@ -38,7 +38,7 @@ module _ {T : Type 0} where
 
   -- these frames, and no others, arrived or were lost in the row, in this order
   abbrev pub HaveLeft : List (Used T) → List (Frame T) → Type 0
-  HaveLeft [] [] = Unit {0}
+  HaveLeft [] [] = ⊤
   HaveLeft (Put frame answer ∷ row) gone = HaveLeft row gone
   HaveLeft (Polled Empty ∷ row) gone = HaveLeft row gone
   HaveLeft (Polled Still ∷ row) gone = HaveLeft row gone

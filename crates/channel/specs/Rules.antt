@@ -1,5 +1,5 @@
 -- The channel rule: what put, poll and holds answer and leave, by the frames that wait, oldest first.
-use Rattle.std.specs.Prelude.{◌≡◌, Bool, true, false, List, [], ◌∷◌, drop, Ok, Err, Result}
+use Rattle.std.specs.Prelude.{◌≡◌, Bool, true, false, List, [], ◌∷◌, drop, Ok, Err, Result, ⊤}
 use Rattle.loads.specs.declared.frames.Frame.{Frame}
 use Rattle.channel.specs.declared.polls.Poll.{Poll}
 use Rattle.channel.specs.declared.polls.Poll.TheVariants.{Empty, Still, Arrived, Lost}
@@ -18,10 +18,10 @@ module _ {T : Type 0} where
 
   -- what a poll may answer: Empty where nothing waits; else Still, Arrived with the oldest, or Lost
   abbrev pub IsAllowed : List (Frame T) → Poll T → Type 0
-  IsAllowed [] Empty = Unit {0}
-  IsAllowed (oldest ∷ others) Still = Unit {0}
+  IsAllowed [] Empty = ⊤
+  IsAllowed (oldest ∷ others) Still = ⊤
   IsAllowed (oldest ∷ others) (Arrived frame) = frame ≡ oldest
-  IsAllowed (oldest ∷ others) Lost = Unit {0}
+  IsAllowed (oldest ∷ others) Lost = ⊤
   IsAllowed waiting answer = ⊥
 
   -- the oldest leaves where it arrived or was lost; else what waited stays

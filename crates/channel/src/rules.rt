@@ -1,5 +1,5 @@
 //! The channel rule, as a trait.
-ghost use Rattle.std.specs.Prelude.{◌≡◌, List};
+ghost use Rattle.std.specs.Prelude.{◌≡◌, List, ⊤};
 ghost use Rattle.loads.specs.declared.frames.Frame.{Frame};
 ghost use Rattle.channel.specs.declared.polls.Poll.{Poll};
 ghost use Rattle.channel.specs.Rules.{put_answer, put_leaves, IsAllowed, poll_leaves, held};
@@ -17,11 +17,11 @@ pub trait Channel<T> {
 
     /// What an implementation says of its put besides the rule: itself before, the frame, itself
     /// after.
-    ghost puts: { Self → Frame T → Self → Type 0 } = { λ _ _ _. Unit {0} };
+    ghost puts: { Self → Frame T → Self → Type 0 } = { λ _ _ _. ⊤ };
 
     /// What an implementation says of its poll besides the rule: itself before, the answer, itself
     /// after.
-    ghost polls: { Self → Poll T → Self → Type 0 } = { λ _ _ _. Unit {0} };
+    ghost polls: { Self → Poll T → Self → Type 0 } = { λ _ _ _. ⊤ };
 
     /// Gives the channel a frame. Refused by `Full` where a frame waits, and then what waits stays.
     fn put(&mut self, frame: &Frame<T>) -> Result<(), Full>

@@ -1,5 +1,5 @@
 -- A channel with room for one frame, which neither delays nor loses it.
-use Rattle.std.specs.Prelude.{◌≡◌, List, [], ◌∷◌}
+use Rattle.std.specs.Prelude.{◌≡◌, List, [], ◌∷◌, ⊤}
 use Rattle.loads.specs.declared.frames.Frame.{Frame}
 use Rattle.channel.specs.declared.polls.Poll.{Poll}
 use Rattle.channel.specs.declared.polls.Poll.TheVariants.{Empty, Arrived}
@@ -15,7 +15,7 @@ module _ {T : Type 0} where
   abbrev pub singles : {C : Type 0} → (C → List (Frame T)) → Ghosts C T
   singles waits = record {
     waiting = waits;
-    puts = λ _ _ _. Unit {0};
+    puts = λ _ _ _. ⊤;
     polls = λ before answer _. answer ≡ arrival (waits before);
   }
 

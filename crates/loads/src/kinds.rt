@@ -18,10 +18,10 @@ pub trait Load: Copy {
 
     ghost SIZE: { ℕ };
 
-    // the octets that a load is spelled as
+    /// The octets that a load is spelled as.
     ghost spelled: { Self → List ℕ };
 
-    // what octets read as
+    /// What octets read as.
     ghost reads: { List ℕ → Result Self Fault };
 
     /// The load that octets spell. Refused by `WrongLength` where they are not `SIZE` octets; what
@@ -49,18 +49,18 @@ pub trait Load: Copy {
         Self::SIZE
     }
 
-    // what was written reads back as the same load
+    /// What was written reads back as the same load.
     ghost back: { (x : Self) → reads (spelled x) ≡ Ok x };
 
-    // the spelling has the kind's length
+    /// The spelling has the kind's length.
     ghost sized: { (x : Self) → length (spelled x) ≡ SIZE };
 
-    // octets of another number are turned down for that
+    /// Octets of another number are turned down for that.
     ghost refused: { (octets : List ℕ) → (length octets ≢ SIZE) → reads octets ≡ Err WrongLength };
 
-    // the number fits the five bits that a frame has for it
+    /// The number fits the five bits that a frame has for it.
     ghost kind_bound: { KIND < 32 };
 
-    // a frame has at most 32 octets
+    /// A frame has at most 32 octets.
     ghost size_bound: { SIZE ≤ 31 };
 }

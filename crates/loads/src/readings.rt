@@ -8,7 +8,7 @@ use crate::kinds::Load;
 /// A number that a hut or a trail sensor reports.
 #[derive(Clone, Copy, Debug, PartialEq, Eq)]
 pub struct Reading {
-    /// The number; its unit is the sensor's.
+    /// The number. Its unit is no part of the format.
     pub value: u32,
 }
 

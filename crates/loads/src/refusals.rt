@@ -4,14 +4,14 @@ ghost use Rattle.loads.specs.Refusals.{answer_number};
 
 /// What turns a call down.
 pub trait Refusal {
-    // the number by which a refusal is known outside
+    /// The number by which a refusal is known outside, as clauses see it.
     ghost number: { Self → ℕ };
 
     /// The number by which this refusal is known outside. It is not 0.
     fn number(&self) -> u8
         ensures answer { result ≡ number self.now };
 
-    // it is not the number of an accepted call
+    /// It is not the number of an accepted call.
     ghost nonzero: { (x : Self) → number x ≢ 0 };
 }
 
