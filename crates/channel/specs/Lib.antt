@@ -1,4 +1,4 @@
+pub mod Rules
 pub mod Channels
 pub mod Rows
-pub mod Rules
 pub mod Words

@@ -1,4 +1,4 @@
-// The rule that every channel keeps, and what follows from it. Nothing here is a channel.
+//! The rule that every channel keeps, and what follows from it. Nothing here is a channel.
 
 #![tactic(auto)]
 
@@ -9,5 +9,5 @@ mod rules;
 
 pub use polls::Poll;
 pub use refusals::Full;
-pub use rows::{Call, Event, make_calls, rows_conserve_frames};
+pub use rows::{Use, Used, make_uses, rows_conserve_frames};
 pub use rules::Channel;

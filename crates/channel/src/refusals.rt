@@ -1,10 +1,10 @@
-// Why a put is turned down.
+//! Why a put is turned down.
 ghost use Rattle.channel.specs.Words.{full_number};
 ghost use Rattle.std.proofs.Common.{rules};
 
 use loads::Refusal;
 
-// A frame waits already.
+/// The refusal of a put, number 11: a frame waits already.
 #[derive(Clone, Copy, Debug, PartialEq, Eq)]
 pub struct Full;
 

@@ -1,5 +1,5 @@
+pub mod Singles
+pub mod Wires
 pub mod Hops
 pub mod Marks
 pub mod Rains
-pub mod Singles
-pub mod Wires

@@ -10,13 +10,13 @@ use Rattle.channels.specs.Singles.{singles}
 
 module _ {T : Type 0} (kind : Ghosts T) where
   -- the frame that octets spell at their front, if they spell one
-  abbrev pub spelt : Option (List ℕ) → Option (Frame T)
-  spelt None = None
-  spelt (Some octets) = result_ok (frame_reads kind (take (kind.SIZE + 1) octets))
+  abbrev pub front_frame : Option (List ℕ) → Option (Frame T)
+  front_frame None = None
+  front_frame (Some octets) = result_ok (frame_reads kind (take (kind.SIZE + 1) octets))
 
   -- the frame that a wire's octets spell
   abbrev pub wire_waits : Wire T → List (Frame T)
-  wire_waits wire = option_to_list (spelt wire.octets)
+  wire_waits wire = option_to_list (front_frame wire.octets)
 
   -- all that a wire says of itself
   abbrev pub wires : channel.Ghosts (Wire T) T

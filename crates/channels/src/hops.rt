@@ -1,4 +1,4 @@
-// The hop: two channels in a row.
+//! The hop: two channels in a row.
 ghost use Rattle.std.specs.Prelude.{◌≡◌};
 ghost use Rattle.channels.specs.Hops.{HopState, hops};
 
@@ -6,7 +6,7 @@ use channel::{Channel, Full, Poll};
 use loads::Frame;
 use std::marker::Model;
 
-// A frame is put into `near` and comes out of `far`.
+/// Two channels in a row: a frame is put into near and comes out of far.
 #[derive(Drop)]
 pub struct Hop<N, F> {
     near: N,
@@ -21,14 +21,14 @@ impl<N, F> Model for Hop<N, F> {
 }
 
 impl<N, F> Hop<N, F> {
-    // The two channels in a row, with what waits in them.
+    /// The two channels in a row, with what waits in them.
     pub fn new(near: N, far: F) -> Hop<N, F>
         ensures answer { result ≡ record { near = near; far = far } }
     {
         Hop { near, far }
     }
 
-    // The two channels, near and far, with what waits in them.
+    /// The two channels, near and far, with what waits in them.
     pub fn into_parts(self) -> (N, F)
         ensures answer { result ≡ (self.near, self.far) }
     {

@@ -1,4 +1,4 @@
-// Four channels, of which any pile is a channel again.
+//! Four channels, of which any pile is a channel again.
 
 #![tactic(auto)]
 

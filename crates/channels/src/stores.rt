@@ -1,4 +1,4 @@
-// The store: a channel that keeps one frame and loses none.
+//! The store: a channel that keeps one frame and loses none.
 ghost use Rattle.std.specs.Prelude.{◌≡◌, List, [], option_to_list};
 ghost use Rattle.loads.specs.declared.frames.Frame.{Frame};
 ghost use Rattle.channels.specs.Singles.{stores};
@@ -7,7 +7,7 @@ use channel::{Channel, Full, Poll};
 use loads::Frame;
 use std::marker::Model;
 
-// Room for one frame.
+/// A channel with room for one frame, which it neither delays nor loses.
 #[derive(Drop)]
 pub struct Store<T> {
     frame: Option<Frame<T>>,
@@ -21,7 +21,7 @@ impl<T> Model for Store<T> {
 }
 
 impl<T> Store<T> {
-    // A store in which nothing waits.
+    /// A store in which nothing waits.
     pub fn new() -> Store<T>
         ensures answer { result ≡ [] }
     {

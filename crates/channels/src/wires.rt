@@ -1,13 +1,14 @@
-// The wire: a channel that keeps one frame as octets and loses none.
+//! The wire: a channel that keeps one frame as octets and loses none.
 ghost use Rattle.std.specs.Prelude.{◌≡◌, []};
-ghost use Rattle.channels.specs.Wires.{spelt, wire_waits, wires};
+ghost use Rattle.channels.specs.Wires.{front_frame, wire_waits, wires};
 
 use channel::{Channel, Full, Poll};
 use loads::{Frame, LONGEST_FRAME, Load};
 use std::marker::PhantomData;
 
-// Room for the octets of one frame, which begin at the front. It has no `Model`, whose view would read the octets by the
-// load kind: then `T: Load` would be asked wherever the type is named.
+/// A channel with room for the octets of one frame, which it neither delays nor loses.
+// The octets begin at the front. It has no `Model`, whose view would read them by the load kind:
+// then `T: Load` would be asked wherever the type is named.
 #[derive(Drop)]
 pub struct Wire<T> {
     octets: Option<[u8; LONGEST_FRAME]>,
@@ -15,7 +16,7 @@ pub struct Wire<T> {
 }
 
 impl<T: Load> Wire<T> {
-    // A wire in which nothing waits.
+    /// A wire in which nothing waits.
     pub fn new() -> Wire<T>
         ensures answer { wire_waits T.Load result ≡ [] }
     {
@@ -27,7 +28,7 @@ impl<T: Load> Wire<T> {
 
     // The frame that the octets spell, if they spell one.
     fn frame(&self) -> Option<Frame<T>>
-        ensures answer { result ≡ spelt T.Load self.now.octets }
+        ensures answer { result ≡ front_frame T.Load self.now.octets }
     {
         let octets = self.octets.as_ref()?;
         Frame::<T>::read(&octets[..Frame::<T>::octet_count()]).ok()

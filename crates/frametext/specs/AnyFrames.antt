@@ -1,5 +1,5 @@
 -- A frame of whichever kind its first octet names, and its text.
-use Rattle.std.specs.Prelude.{ℕ, Bool, cond, List, ◌++◌, length, Ok, Err, Result, codes, decimal, ◌==◌, slice_index}
+use Rattle.std.specs.Prelude.{ℕ, Bool, if◌then◌else◌, List, [], ◌∷◌, ◌++◌, Ok, Err, Result, codes, decimal, ◌==◌}
 use Rattle.loads.specs.declared.faults.Fault.{Fault}
 use Rattle.loads.specs.declared.faults.Fault.TheVariants.{WrongLength, WrongKind}
 use Rattle.loads.specs.declared.frames.Frame.{Frame}
@@ -18,22 +18,26 @@ any_of of (Err fault) = Err fault
 -- the frame of a kind, refused where no load has that kind
 abbrev pub of_kind : ℕ → List ℕ → Result AnyFrame Fault
 of_kind kind octets =
-    cond (kind == empty_kind) (any_of Empty (frame_reads empties octets))
-    (cond (kind == reading_kind) (any_of Reading (frame_reads readings octets))
-    (cond (kind == piece_kind) (any_of Piece (frame_reads pieces octets))
-    (Err WrongKind)))
+    if kind == empty_kind then any_of Empty (frame_reads empties octets)
+    else if kind == reading_kind then any_of Reading (frame_reads readings octets)
+    else if kind == piece_kind then any_of Piece (frame_reads pieces octets)
+    else Err WrongKind
 
 -- the frame that octets spell; without a first octet their number is wrong
 abbrev pub any_reads : List ℕ → Result AnyFrame Fault
-any_reads octets = cond (length octets == 0) (Err WrongLength) (of_kind (kind_of (slice_index octets 0)) octets)
+any_reads [] = Err WrongLength
+any_reads (first ∷ others) = of_kind (kind_of first) (first ∷ others)
 
 -- a bit as a word
 abbrev pub on_off : Bool → List ℕ
-on_off bit = cond bit (codes "on") (codes "off")
+on_off bit = if bit then codes "on" else codes "off"
 
 -- the three bits of a frame
 abbrev pub bits_text : {T : Type 0} → Frame T → List ℕ
-bits_text f = codes "first " ++ (on_off f.first ++ (codes ", last " ++ (on_off f.last ++ (codes ", toggle " ++ on_off f.toggle))))
+bits_text f =
+    codes "first " ++ (on_off f.first
+    ++ (codes ", last " ++ (on_off f.last
+    ++ (codes ", toggle " ++ on_off f.toggle))))
 
 -- the bits and the load of a frame, its numbers in decimal
 abbrev pub frame_text : AnyFrame → List ℕ

@@ -1,4 +1,4 @@
-pub mod AnyFrames
-pub mod Events
 pub mod Hexadecimals
+pub mod AnyFrames
 pub mod Lines
+pub mod Uses

@@ -17,9 +17,12 @@ abbrev pub spelled_text : List ℕ → List ℕ
 spelled_text octets = answer_text (any_reads octets)
 
 -- a label, the octets, and what they spell
-abbrev pub line : List ℕ → List ℕ → List ℕ
-line label octets = label ++ (codes " " ++ (hexadecimal octets ++ (codes ": " ++ spelled_text octets)))
+abbrev pub frame_line : List ℕ → List ℕ → List ℕ
+frame_line label octets =
+    label ++ (codes " " ++ (hexadecimal octets ++ (codes ": " ++ spelled_text octets)))
 
--- octets as written, and a copy with the octet at one place changed
-abbrev pub lines : List ℕ → ℕ → ℕ → List ℕ
-lines octets place octet = line (codes "wrote") octets ++ (codes "\n" ++ line (codes "damaged") (slice_set octets place octet))
+-- two lines: octets as written, and with the octet at one place changed
+abbrev pub changed_lines : List ℕ → ℕ → ℕ → List ℕ
+changed_lines octets place octet =
+    frame_line (codes "wrote") octets
+    ++ (codes "\n" ++ frame_line (codes "damaged") (slice_set octets place octet))

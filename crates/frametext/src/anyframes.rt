@@ -1,20 +1,25 @@
-// A frame of whichever kind its first octet names, and its text.
+//! A frame of whichever kind its first octet names, and its text.
 ghost use Rattle.std.specs.Prelude.{◌≡◌, Some};
 ghost use Rattle.frametext.specs.AnyFrames.{any_reads, on_off, bits_text, frame_text};
 
 use loads::{EmptyLoad, Fault, Frame, Load, Piece, Reading, kind_of};
 use std::fmt;
 
-// A frame, by the kind of its load.
+/// A frame, by the kind of its load.
 #[derive(Clone, Copy)]
 pub enum AnyFrame {
+    /// A frame of the empty load.
     Empty(Frame<EmptyLoad>),
+    /// A frame of a reading.
     Reading(Frame<Reading>),
+    /// A frame of a piece.
     Piece(Frame<Piece>),
 }
 
 impl AnyFrame {
-    // The frame that octets spell, of the kind that the first of them names.
+    /// The frame that octets spell, of the kind that the first of them names. Refused by
+    /// `WrongLength` where there is none, by `WrongKind` where no load has that kind, and else as
+    /// by the reader of a frame of the kind.
     pub fn read(octets: &[u8]) -> Result<AnyFrame, Fault>
         ensures answer { result ≡ any_reads octets.now }
     {

@@ -1,13 +1,13 @@
-// Frames of any kind, and the printed lines of frames, puts and polls.
+//! Frames of any kind, and the printed lines of frames, puts and polls.
 
 #![tactic(auto)]
 
 mod anyframes;
-mod events;
 mod hexadecimals;
 mod lines;
+mod uses;
 
 pub use anyframes::AnyFrame;
-pub use events::event_line;
 pub use hexadecimals::{hexadecimal, push_hexadecimal};
 pub use lines::{frame_line, frame_lines};
+pub use uses::use_line;

@@ -1,8 +1,8 @@
 -- What a call of one end comes to: its answer and the end after, or why it is turned down; and how it uses its channel.
 use Rattle.std.specs.Prelude.{Bool, if◌then◌else◌, List, [], ◌∷◌, Ok, Err, Result}
 use Rattle.loads.specs.declared.frames.Frame.{Frame}
-use Rattle.channel.specs.declared.rows.Event.{Event as Used}
-use Rattle.channel.specs.declared.rows.Event.TheVariants.{Put}
+use Rattle.channel.specs.declared.rows.Used.{Used}
+use Rattle.channel.specs.declared.rows.Used.TheVariants.{Put}
 use Rattle.link.specs.declared.refusals.LinkRefusal.{LinkRefusal}
 use Rattle.link.specs.declared.refusals.LinkRefusal.TheVariants.{NotDue, ChannelFull}
 

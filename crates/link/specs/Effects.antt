@@ -4,7 +4,7 @@ use Rattle.loads.specs.declared.frames.Frame.{Frame}
 use Rattle.loads.specs.declared.empties.EmptyLoad.{EmptyLoad}
 use Rattle.channel.specs.declared.polls.Poll.{Poll}
 use Rattle.channel.specs.declared.polls.Poll.TheVariants as poll
-use Rattle.channel.specs.declared.rows.Event.{Event as Used}
+use Rattle.channel.specs.declared.rows.Used.{Used}
 use Rattle.link.specs.declared.refusals.LinkRefusal.{LinkRefusal}
 use Rattle.link.specs.declared.refusals.LinkRefusal.TheVariants.{NotJoined, NothingWaits}
 use Rattle.link.specs.declared.words.Heard.{Heard}

@@ -2,7 +2,7 @@
 use Rattle.std.specs.Prelude.{◌≡◌, ℕ, if◌then◌else◌, nat_lt, List, [], ◌∷◌, length, take, drop, Ok, Err, Result}
 use Rattle.loads.specs.declared.empties.EmptyLoad.{EmptyLoad}
 use Rattle.channel.specs.declared.rules.Channel.{Ghosts}
-use Rattle.channel.specs.Rows.{Row as RowLeads}
+use Rattle.channel.specs.Rows.{RowLeads}
 use Rattle.link.specs.declared.calls.Call.{Call}
 use Rattle.link.specs.declared.events.Event.{Event}
 use Rattle.link.specs.declared.refusals.LinkRefusal.{LinkRefusal}

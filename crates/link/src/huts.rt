@@ -1,7 +1,7 @@
 //! The hut's end: it holds a frame, tells its load, and replies.
 ghost use Rattle.std.specs.Prelude.{◌≡◌};
 ghost use Rattle.loads.specs.declared.frames.Frame.{Frame};
-ghost use Rattle.channel.specs.Rows.{Row as RowLeads};
+ghost use Rattle.channel.specs.Rows.{RowLeads};
 ghost use Rattle.link.specs.Changes.{answer_of, after_of, offers};
 ghost use Rattle.link.specs.States.{HutState, hut_start};
 ghost use Rattle.link.specs.Huts as hut;

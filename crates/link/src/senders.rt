@@ -1,7 +1,7 @@
 //! The sender: it sends the loads of a message one by one, each again after a loss, up to the repeats.
 ghost use Rattle.std.specs.Prelude.{◌≡◌, ◌-◌, drop, option_map};
 ghost use Rattle.std.specs.List.{range_with_len};
-ghost use Rattle.channel.specs.Rows.{Row as RowLeads};
+ghost use Rattle.channel.specs.Rows.{RowLeads};
 ghost use Rattle.link.specs.Changes.{answer_of, after_of, offers};
 ghost use Rattle.link.specs.States.{SenderState, sender_start};
 ghost use Rattle.link.specs.Senders as sender;

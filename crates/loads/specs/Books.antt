@@ -12,4 +12,5 @@ module _ {T : Type 0} where
   -- at most `count` loads, each from the next octets, as many as the kind has
   abbrev pub book_reads : Ghosts T → ℕ → List ℕ → List T
   book_reads kind zero octets = []
-  book_reads kind (suc count) octets = before (kind.reads (take kind.SIZE octets)) (book_reads kind count (drop kind.SIZE octets))
+  book_reads kind (suc count) octets =
+      before (kind.reads (take kind.SIZE octets)) (book_reads kind count (drop kind.SIZE octets))

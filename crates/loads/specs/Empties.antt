@@ -1,5 +1,5 @@
 -- The empty load as octets.
-use Rattle.std.specs.Prelude.{ℕ, cond, List, [], length, Ok, Err, Result, ◌==◌}
+use Rattle.std.specs.Prelude.{ℕ, if◌then◌else◌, List, [], length, Ok, Err, Result, ◌==◌}
 use Rattle.loads.specs.declared.faults.Fault.{Fault}
 use Rattle.loads.specs.declared.kinds.Load.{Ghosts}
 use Rattle.loads.specs.declared.faults.Fault.TheVariants.{WrongLength}
@@ -19,8 +19,13 @@ empty_spelled x = []
 
 -- no octets read as the empty load
 abbrev pub empty_reads : List ℕ → Result EmptyLoad Fault
-empty_reads octets = cond (length octets == empty_size) (Ok (record {})) (Err WrongLength)
+empty_reads octets = if length octets == empty_size then Ok (record {}) else Err WrongLength
 
 -- the kind as a whole
 abbrev pub empties : Ghosts EmptyLoad
-empties = record { KIND = empty_kind; SIZE = empty_size; spelled = empty_spelled; reads = empty_reads }
+empties = record {
+  KIND = empty_kind;
+  SIZE = empty_size;
+  spelled = empty_spelled;
+  reads = empty_reads;
+}

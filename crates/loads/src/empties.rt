@@ -1,11 +1,11 @@
-// The empty load, which replies carry.
+//! The empty load, which replies carry.
 ghost use Rattle.loads.specs.Empties.{empty_kind, empty_size, empty_spelled, empty_reads};
 ghost use Rattle.std.proofs.Common.{rules};
 
 use crate::faults::Fault;
 use crate::kinds::Load;
 
-// A load of no octets.
+/// A load of no octets, which every reply carries.
 #[derive(Clone, Copy, Debug, PartialEq, Eq)]
 pub struct EmptyLoad;
 

@@ -1,4 +1,4 @@
-// Why octets or a buffer are turned down, by fixed numbers.
+//! Why octets or a buffer are turned down, by fixed numbers.
 ghost use Rattle.std.specs.Prelude.{◌≡◌, Some};
 ghost use Rattle.loads.specs.Faults.{number_of};
 ghost use Rattle.loads.specs.Refusals.{refused_text};
@@ -10,16 +10,16 @@ use std::alloc::{AllocError, AllocFailed};
 use std::error::Error;
 use std::fmt;
 
-// A refusal of a reader or a writer, or want of memory.
+/// A refusal of a reader or a writer, or want of memory. Each has a fixed number.
 #[derive(Clone, Copy, Debug, PartialEq, Eq)]
 pub enum Fault {
-    // The octets are not as many as the kind has, or the buffer is too short for them.
+    /// The octets are not as many as the kind has, or the buffer is too short for them.
     WrongLength = 14,
-    // The frame's kind is not the kind that is read.
+    /// The frame's kind is not the kind that is read.
     WrongKind = 15,
-    // The fields are no piece of a map tile.
+    /// The fields are no piece of a map tile.
     OutsideRanges = 16,
-    // What was to be made found no memory.
+    /// What was to be made found no memory.
     NoMemory = 255,
 }
 
@@ -33,7 +33,8 @@ impl Refusal for Fault {
     }
 }
 
-// By hand, since of a derived text no contract says what it is. Open: whether all of it can be written.
+// By hand, since of a derived text no contract says what it is. Open: whether all of it can be
+// written.
 impl fmt::Display for Fault {
     ghost output = { λ fault. Some (refused_text (number_of fault)) };
 

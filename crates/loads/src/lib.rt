@@ -1,4 +1,4 @@
-// What a frame carries, the frame itself, and both as octets.
+//! What a frame carries, the frame itself, and both as octets.
 
 #![tactic(auto)]
 

@@ -1,13 +1,14 @@
-// The reading: a 32-bit number from the trail.
+//! The reading: a 32-bit number from the trail.
 ghost use Rattle.loads.specs.Readings.{reading_kind, reading_size, reading_spelled, reading_reads};
 ghost use Rattle.std.proofs.Common.{rules};
 
 use crate::faults::Fault;
 use crate::kinds::Load;
 
-// A number that a hut or a trail sensor reports.
+/// A number that a hut or a trail sensor reports.
 #[derive(Clone, Copy, Debug, PartialEq, Eq)]
 pub struct Reading {
+    /// The number. Its unit is no part of the format.
     pub value: u32,
 }
 

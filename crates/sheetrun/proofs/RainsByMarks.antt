@@ -5,9 +5,9 @@ use Rattle.loads.specs.declared.frames.Frame.{Frame}
 use Rattle.channel.specs.declared.polls.Poll.{Poll}
 use Rattle.channel.specs.declared.polls.Poll.TheVariants as poll
 use Rattle.channel.specs.declared.refusals.Full.{Full}
-use Rattle.channel.specs.declared.rows.Event.{Event as Used}
-use Rattle.channel.specs.declared.rows.Event.TheVariants as used
-use Rattle.channel.specs.Rows.{Step as UseLeads, Row as RowLeads}
+use Rattle.channel.specs.declared.rows.Used.{Used}
+use Rattle.channel.specs.declared.rows.Used.TheVariants as used
+use Rattle.channel.specs.Rows.{UseLeads, RowLeads}
 use Rattle.channel.specs.Rules.{held, put_answer}
 use Rattle.channels.specs.declared.marks.Mark.{Mark}
 use Rattle.channels.specs.declared.marks.Mark.TheVariants.{Pass, Lose, Delay}

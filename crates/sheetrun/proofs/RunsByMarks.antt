@@ -3,10 +3,10 @@ use Rattle.std.proofs.Common.{◌≡◌, ℕ, List, [], ◌∷◌, map, Result, 
 use Rattle.loads.specs.declared.frames.Frame.{Frame}
 use Rattle.loads.specs.declared.empties.EmptyLoad.{EmptyLoad}
 use Rattle.channel.specs.declared.polls.Poll.{Poll}
-use Rattle.channel.specs.declared.rows.Event.{Event as Used}
-use Rattle.channel.specs.declared.rows.Event.TheVariants as used
+use Rattle.channel.specs.declared.rows.Used.{Used}
+use Rattle.channel.specs.declared.rows.Used.TheVariants as used
 use Rattle.channel.specs.declared.rules.Channel.{Ghosts}
-use Rattle.channel.specs.Rows.{Row as RowLeads}
+use Rattle.channel.specs.Rows.{RowLeads}
 use Rattle.channels.specs.Rains.{RainState, rains}
 use Rattle.channels.specs.Singles.{singles}
 use Rattle.link.specs.declared.calls.Call.{Call}

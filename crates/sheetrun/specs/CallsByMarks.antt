@@ -4,8 +4,8 @@ use Rattle.loads.specs.declared.empties.EmptyLoad.{EmptyLoad}
 use Rattle.loads.specs.declared.frames.Frame.{Frame}
 use Rattle.loads.specs.declared.kinds.Load as loads
 use Rattle.channel.specs.declared.polls.Poll.TheVariants as poll
-use Rattle.channel.specs.declared.rows.Event.{Event as Used}
-use Rattle.channel.specs.declared.rows.Event.TheVariants.{Put, Poll}
+use Rattle.channel.specs.declared.rows.Used.{Used}
+use Rattle.channel.specs.declared.rows.Used.TheVariants.{Put, Poll}
 use Rattle.channel.specs.declared.rules.Channel.{Ghosts}
 use Rattle.channels.specs.declared.marks.Mark.{Mark}
 use Rattle.channels.specs.declared.marks.Mark.TheVariants.{Pass, Lose, Delay}

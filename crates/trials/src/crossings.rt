@@ -1,5 +1,5 @@
-// What the cases on channels share: frames, rains, and events that a channel is held against.
-use channel::{Call, Channel, Event, Poll};
+// What the cases on channels share: frames, rains, and rows of uses that a channel is held against.
+use channel::{Channel, Poll, Use, Used};
 use channels::Rain;
 use loads::{Frame, Load};
 use std::fmt::Debug;
@@ -33,29 +33,29 @@ pub fn below<'m, C: Drop>(rt: &impl Abort, channel: C, marks: &'m [u8]) -> Rain<
     rain
 }
 
-// Whether a frame waits after an event, where the event tells: one that arrived or was lost may have others behind it.
-fn waits_after<T>(event: &Event<T>) -> Option<bool> {
-    match event {
-        Event::Put(_, _) => Some(true),
-        Event::Poll(Poll::Empty) => Some(false),
-        Event::Poll(Poll::Still) => Some(true),
-        Event::Poll(_) => None,
+// Whether a frame waits after a use, where its answer tells: one that arrived or was lost may have others behind it.
+fn waits_after<T>(used: &Used<T>) -> Option<bool> {
+    match used {
+        Used::Put(_, _) => Some(true),
+        Used::Poll(Poll::Empty) => Some(false),
+        Used::Poll(Poll::Still) => Some(true),
+        Used::Poll(_) => None,
     }
 }
 
-// Makes the call of each event in order. The channel must answer as the event says, and hold a frame or not.
+// Makes each use of a row in order. The channel must answer as the row says, and hold a frame or not.
 pub fn follow<T: Load + Debug + PartialEq, C: Channel<T>>(
     rt: &impl Abort,
     channel: &mut C,
-    events: &[Event<T>],
+    row: &[Used<T>],
 ) {
-    for event in events {
-        let call = match event {
-            Event::Put(frame, _) => Call::Put(*frame),
-            Event::Poll(_) => Call::Poll,
+    for used in row {
+        let wanted = match used {
+            Used::Put(frame, _) => Use::Put(*frame),
+            Used::Poll(_) => Use::Poll,
         };
-        assert_eq!(rt; call.make(channel), *event);
-        if let Some(waits) = waits_after(event) {
+        assert_eq!(rt; wanted.make(channel), *used);
+        if let Some(waits) = waits_after(used) {
             assert_eq!(rt; channel.holds(), waits);
         }
     }

@@ -1,6 +1,6 @@
 // The hop: near and far, empty and holding.
 use crate::crossings::{below, follow, opening};
-use channel::{Event, Full, Poll};
+use channel::{Full, Poll, Used};
 use channels::{Hop, Store, Wire};
 use loads::{EmptyLoad, Frame, Piece, Reading};
 use std::test::Fail;
@@ -12,14 +12,14 @@ const EMPTY: Frame<EmptyLoad> = Frame {
     load: EmptyLoad,
 };
 
-const MOVES: [Event<EmptyLoad>; 7] = [
-    Event::Poll(Poll::Empty),
-    Event::Put(EMPTY, Ok(())),
-    Event::Put(EMPTY, Err(Full)),
-    Event::Poll(Poll::Still),
-    Event::Put(EMPTY, Err(Full)),
-    Event::Poll(Poll::Arrived(EMPTY)),
-    Event::Poll(Poll::Empty),
+const MOVES: [Used<EmptyLoad>; 7] = [
+    Used::Poll(Poll::Empty),
+    Used::Put(EMPTY, Ok(())),
+    Used::Put(EMPTY, Err(Full)),
+    Used::Poll(Poll::Still),
+    Used::Put(EMPTY, Err(Full)),
+    Used::Poll(Poll::Arrived(EMPTY)),
+    Used::Poll(Poll::Empty),
 ];
 
 #[test]
@@ -41,21 +41,21 @@ const NEWER: Frame<Reading> = Frame {
     load: Reading { value: 2 },
 };
 
-const FAR_FIRST: [Event<Reading>; 6] = [
-    Event::Put(OLDER, Err(Full)),
-    Event::Poll(Poll::Arrived(OLDER)),
-    Event::Put(OLDER, Err(Full)),
-    Event::Poll(Poll::Still),
-    Event::Poll(Poll::Arrived(NEWER)),
-    Event::Put(OLDER, Ok(())),
+const FAR_FIRST: [Used<Reading>; 6] = [
+    Used::Put(OLDER, Err(Full)),
+    Used::Poll(Poll::Arrived(OLDER)),
+    Used::Put(OLDER, Err(Full)),
+    Used::Poll(Poll::Still),
+    Used::Poll(Poll::Arrived(NEWER)),
+    Used::Put(OLDER, Ok(())),
 ];
 
 #[test]
 fn a_hop_that_holds_two_frames_gives_the_far_one_first(rt: HostRuntime) {
     let mut near = Wire::new();
     let mut far = Store::new();
-    follow(&rt, &mut near, &[Event::Put(NEWER, Ok(()))]);
-    follow(&rt, &mut far, &[Event::Put(OLDER, Ok(()))]);
+    follow(&rt, &mut near, &[Used::Put(NEWER, Ok(()))]);
+    follow(&rt, &mut far, &[Used::Put(OLDER, Ok(()))]);
     follow(&rt, &mut Hop::new(near, far), &FAR_FIRST);
 }
 
@@ -67,14 +67,14 @@ fn what_far_answers_is_passed_on(rt: HostRuntime) -> Result<(), Fail> {
         &rt,
         &mut Hop::new(Wire::new(), far),
         &[
-            Event::Put(frame, Ok(())),
-            Event::Poll(Poll::Still),
-            Event::Poll(Poll::Still),
-            Event::Poll(Poll::Arrived(frame)),
-            Event::Put(frame, Ok(())),
-            Event::Poll(Poll::Still),
-            Event::Poll(Poll::Lost),
-            Event::Poll(Poll::Empty),
+            Used::Put(frame, Ok(())),
+            Used::Poll(Poll::Still),
+            Used::Poll(Poll::Still),
+            Used::Poll(Poll::Arrived(frame)),
+            Used::Put(frame, Ok(())),
+            Used::Poll(Poll::Still),
+            Used::Poll(Poll::Lost),
+            Used::Poll(Poll::Empty),
         ],
     );
     Ok(())
@@ -83,12 +83,12 @@ fn what_far_answers_is_passed_on(rt: HostRuntime) -> Result<(), Fail> {
 #[test]
 fn a_hop_hands_its_channels_back(rt: HostRuntime) {
     let mut hop = Hop::new(Wire::new(), Store::new());
-    follow(&rt, &mut hop, &[Event::Put(OLDER, Ok(()))]);
+    follow(&rt, &mut hop, &[Used::Put(OLDER, Ok(()))]);
     let (mut near, mut far) = hop.into_parts();
-    follow(&rt, &mut far, &[Event::Poll(Poll::Empty)]);
+    follow(&rt, &mut far, &[Used::Poll(Poll::Empty)]);
     follow(
         &rt,
         &mut near,
-        &[Event::Poll(Poll::Arrived(OLDER)), Event::Poll(Poll::Empty)],
+        &[Used::Poll(Poll::Arrived(OLDER)), Used::Poll(Poll::Empty)],
     );
 }

@@ -5,7 +5,7 @@ use crate::linksteps::{
     ARRIVED, Answered, Case, DONE, NOT_DUE, THREE, book_of, follow_cases, follow_link, follow_new,
     readings,
 };
-use channel::{Channel, Event};
+use channel::{Channel, Used};
 use channels::{Store, Wire};
 use link::{Answer, Call, Hut, Link, LinkRefusal, Sender};
 use loads::{EmptyLoad, Reading, Refusal};
@@ -133,7 +133,7 @@ fn a_link_does_not_join_while_a_frame_waits(rt: HostRuntime) -> Result<(), Fail>
     follow(
         &rt,
         &mut to_hut,
-        &[Event::Put(opening(Reading { value: 7 }), Ok(()))],
+        &[Used::Put(opening(Reading { value: 7 }), Ok(()))],
     );
     let mut link = Link::new(to_hut, Store::new());
     let holds = Join(0, Err(LinkRefusal::ChannelHolds));
@@ -141,7 +141,7 @@ fn a_link_does_not_join_while_a_frame_waits(rt: HostRuntime) -> Result<(), Fail>
     follow_link(&rt, &mut link, &book, "to the hut", &[holds, too_many]);
     let (to_hut, mut back) = link.into_parts();
     assert!(rt; to_hut.holds());
-    follow(&rt, &mut back, &[Event::Put(opening(EmptyLoad), Ok(()))]);
+    follow(&rt, &mut back, &[Used::Put(opening(EmptyLoad), Ok(()))]);
     let mut link = Link::new(Store::new(), back);
     follow_link(&rt, &mut link, &book, "back", &[holds]);
     Ok(())
@@ -222,7 +222,7 @@ fn a_send_is_turned_down_by_a_full_channel(rt: HostRuntime) -> Result<(), Fail> 
     follow(
         &rt,
         &mut to_hut,
-        &[Event::Put(opening(Reading { value: 7 }), Ok(()))],
+        &[Used::Put(opening(Reading { value: 7 }), Ok(()))],
     );
     let mut sender = Sender::new();
     assert_eq!(rt; sender.request(book.len(), 0, 3), Ok(()));
@@ -237,7 +237,7 @@ fn a_send_is_turned_down_by_a_full_channel(rt: HostRuntime) -> Result<(), Fail> 
 #[test]
 fn a_reply_is_turned_down_by_a_full_channel(rt: HostRuntime) {
     let mut back = Store::new();
-    follow(&rt, &mut back, &[Event::Put(opening(EmptyLoad), Ok(()))]);
+    follow(&rt, &mut back, &[Used::Put(opening(EmptyLoad), Ok(()))]);
     let mut hut = Hut::new();
     hut.carry(&opening(Reading { value: 7 }));
     assert!(rt; hut.tell().is_ok());

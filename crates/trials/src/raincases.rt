@@ -1,6 +1,6 @@
 // The rain: its marks, their order and their limits.
 use crate::crossings::{below, follow, opening};
-use channel::{Event, Full, Poll};
+use channel::{Full, Poll, Used};
 use channels::{Hop, Rain, Store};
 use loads::{EmptyLoad, Frame, Reading, answer_number};
 
@@ -11,22 +11,22 @@ const SEVEN: Frame<Reading> = Frame {
     load: Reading { value: 7 },
 };
 
-const IN_ORDER: [Event<Reading>; 15] = [
-    Event::Poll(Poll::Empty),
-    Event::Put(SEVEN, Ok(())),
-    Event::Poll(Poll::Lost),
-    Event::Poll(Poll::Empty),
-    Event::Put(SEVEN, Ok(())),
-    Event::Put(SEVEN, Err(Full)),
-    Event::Poll(Poll::Still),
-    Event::Poll(Poll::Arrived(SEVEN)),
-    Event::Put(SEVEN, Ok(())),
-    Event::Poll(Poll::Arrived(SEVEN)),
-    Event::Put(SEVEN, Ok(())),
-    Event::Poll(Poll::Lost),
-    Event::Put(SEVEN, Ok(())),
-    Event::Poll(Poll::Arrived(SEVEN)),
-    Event::Poll(Poll::Empty),
+const IN_ORDER: [Used<Reading>; 15] = [
+    Used::Poll(Poll::Empty),
+    Used::Put(SEVEN, Ok(())),
+    Used::Poll(Poll::Lost),
+    Used::Poll(Poll::Empty),
+    Used::Put(SEVEN, Ok(())),
+    Used::Put(SEVEN, Err(Full)),
+    Used::Poll(Poll::Still),
+    Used::Poll(Poll::Arrived(SEVEN)),
+    Used::Put(SEVEN, Ok(())),
+    Used::Poll(Poll::Arrived(SEVEN)),
+    Used::Put(SEVEN, Ok(())),
+    Used::Poll(Poll::Lost),
+    Used::Put(SEVEN, Ok(())),
+    Used::Poll(Poll::Arrived(SEVEN)),
+    Used::Poll(Poll::Empty),
 ];
 
 #[test]
@@ -43,27 +43,27 @@ fn a_delay_does_not_poll_below(rt: HostRuntime) {
     follow(
         &rt,
         &mut rain,
-        &[Event::Put(frame, Ok(())), Event::Poll(Poll::Still)],
+        &[Used::Put(frame, Ok(())), Used::Poll(Poll::Still)],
     );
     let (mut near, mut far) = rain.into_below().into_parts();
-    follow(&rt, &mut far, &[Event::Poll(Poll::Empty)]);
-    follow(&rt, &mut near, &[Event::Poll(Poll::Arrived(frame))]);
+    follow(&rt, &mut far, &[Used::Poll(Poll::Empty)]);
+    follow(&rt, &mut near, &[Used::Poll(Poll::Arrived(frame))]);
 }
 
 #[test]
 fn a_frame_that_was_below_before_has_no_mark(rt: HostRuntime) {
     let frame = opening(Reading { value: 7 });
     let mut store = Store::new();
-    follow(&rt, &mut store, &[Event::Put(frame, Ok(()))]);
+    follow(&rt, &mut store, &[Used::Put(frame, Ok(()))]);
     let mut rain = below(&rt, store, &[1]);
     follow(
         &rt,
         &mut rain,
         &[
-            Event::Put(frame, Err(Full)),
-            Event::Poll(Poll::Arrived(frame)),
-            Event::Put(frame, Ok(())),
-            Event::Poll(Poll::Lost),
+            Used::Put(frame, Err(Full)),
+            Used::Poll(Poll::Arrived(frame)),
+            Used::Put(frame, Ok(())),
+            Used::Poll(Poll::Lost),
         ],
     );
 }
@@ -78,17 +78,17 @@ fn the_sixty_fourth_mark_is_the_last(rt: HostRuntime) {
         follow(
             &rt,
             &mut rain,
-            &[Event::Put(frame, Ok(())), Event::Poll(Poll::Arrived(frame))],
+            &[Used::Put(frame, Ok(())), Used::Poll(Poll::Arrived(frame))],
         );
     }
     follow(
         &rt,
         &mut rain,
         &[
-            Event::Put(frame, Ok(())),
-            Event::Poll(Poll::Lost),
-            Event::Put(frame, Ok(())),
-            Event::Poll(Poll::Arrived(frame)),
+            Used::Put(frame, Ok(())),
+            Used::Poll(Poll::Lost),
+            Used::Put(frame, Ok(())),
+            Used::Poll(Poll::Arrived(frame)),
         ],
     );
 }
@@ -116,8 +116,8 @@ fn marks_have_their_limits(rt: HostRuntime) {
 fn a_refused_channel_comes_back_as_it_was(rt: HostRuntime) {
     let frame = opening(Reading { value: 7 });
     let mut store = Store::new();
-    follow(&rt, &mut store, &[Event::Put(frame, Ok(()))]);
+    follow(&rt, &mut store, &[Used::Put(frame, Ok(()))]);
     let refused = Rain::new(store, &[0; 65]).unwrap_err();
     let mut store = refused.below;
-    follow(&rt, &mut store, &[Event::Poll(Poll::Arrived(frame))]);
+    follow(&rt, &mut store, &[Used::Poll(Poll::Arrived(frame))]);
 }

@@ -1,6 +1,6 @@
 // The text of frames and of what became of them.
-use channel::{Event, Full, Poll};
-use frametext::{AnyFrame, event_line, frame_line, frame_lines, hexadecimal};
+use channel::{Full, Poll, Used};
+use frametext::{AnyFrame, frame_line, frame_lines, hexadecimal, use_line};
 use loads::{EmptyLoad, Frame, Reading};
 use std::test::Fail;
 
@@ -78,22 +78,19 @@ const SEVEN: Frame<Reading> = Frame {
     load: Reading { value: 7 },
 };
 
-const EVENTS: [(Event<Reading>, &str); 6] = [
-    (Event::Put(SEVEN, Ok(())), "put 8100000007: 0"),
-    (Event::Put(SEVEN, Err(Full)), "put 8100000007: 11"),
-    (Event::Poll(Poll::Empty), "poll: EMPTY"),
-    (Event::Poll(Poll::Still), "poll: STILL"),
-    (
-        Event::Poll(Poll::Arrived(SEVEN)),
-        "poll: ARRIVED 8100000007",
-    ),
-    (Event::Poll(Poll::Lost), "poll: LOST"),
+const USES: [(Used<Reading>, &str); 6] = [
+    (Used::Put(SEVEN, Ok(())), "put 8100000007: 0"),
+    (Used::Put(SEVEN, Err(Full)), "put 8100000007: 11"),
+    (Used::Poll(Poll::Empty), "poll: EMPTY"),
+    (Used::Poll(Poll::Still), "poll: STILL"),
+    (Used::Poll(Poll::Arrived(SEVEN)), "poll: ARRIVED 8100000007"),
+    (Used::Poll(Poll::Lost), "poll: LOST"),
 ];
 
 #[test]
-fn events_have_their_lines(rt: HostRuntime) -> Result<(), Fail> {
-    for (event, line) in EVENTS {
-        assert_eq!(rt; event_line(rt.alloc(), &event)?.as_str(), line);
+fn uses_have_their_lines(rt: HostRuntime) -> Result<(), Fail> {
+    for (used, line) in USES {
+        assert_eq!(rt; use_line(rt.alloc(), &used)?.as_str(), line);
     }
     Ok(())
 }

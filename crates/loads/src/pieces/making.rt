@@ -1,4 +1,4 @@
-// The piece made from its fields, and as octets.
+//! The piece made from its fields, and as octets.
 ghost use Rattle.std.specs.Prelude.{◌≡◌};
 ghost use Rattle.loads.specs.Maps.{on_map};
 ghost use Rattle.loads.specs.Pieces.{piece_of, piece_kind, piece_size, piece_spelled, piece_reads};
@@ -20,7 +20,7 @@ fn on_map(zoom: u8, column: u32, row: u32) -> bool
 }
 
 impl Piece {
-    // The piece of these fields, refused where the map has no such tile.
+    /// The piece of these fields. Refused by `OutsideRanges` where the map has no such tile.
     pub fn new(zoom: u8, column: u32, row: u32, number: u16, body: u64) -> Result<Piece, Fault>
         ensures answer { result ≡ piece_of zoom column row number body }
     {

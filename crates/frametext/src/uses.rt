@@ -1,9 +1,10 @@
-// The printed line of a put or a poll: by functions, since these types are of a crate that has no text.
+//! The printed line of a put or a poll: by functions, since these types are of a crate that has no
+//! text.
 ghost use Rattle.std.specs.Prelude.{◌≡◌, IfOk, string_bytes};
-ghost use Rattle.frametext.specs.Events.{octets_text, poll_text, event_text};
+ghost use Rattle.frametext.specs.Uses.{octets_text, poll_text, use_text};
 
 use crate::hexadecimals::hexadecimal;
-use channel::{Event, Poll};
+use channel::{Poll, Used};
 use loads::{Frame, Load, answer_number};
 use std::alloc::{AllocError, Global};
 
@@ -30,18 +31,18 @@ fn poll_text<T: Load>(heap: Global, answer: &Poll<T>) -> Result<String, AllocErr
     }
 }
 
-// A put with its frame and the number of its answer, or a poll with its answer. Open: whether there is memory for the
-// text.
-pub fn event_line<T: Load>(heap: Global, event: &Event<T>) -> Result<String, AllocError>
-    ensures made { IfOk result (λ text. string_bytes text ≡ event_text T.Load event.now) }
+/// A put with its frame and the number of its answer, or a poll with its answer. Open: whether
+/// there is memory for the text.
+pub fn use_line<T: Load>(heap: Global, used: &Used<T>) -> Result<String, AllocError>
+    ensures made { IfOk result (λ text. string_bytes text ≡ use_text T.Load used.now) }
 {
-    match event {
-        Event::Put(frame, answer) => {
+    match used {
+        Used::Put(frame, answer) => {
             let octets = octets_text(heap, frame)?;
             let number = answer_number(answer);
             format!(in heap; "put {octets}: {number}")
         }
-        Event::Poll(answer) => {
+        Used::Poll(answer) => {
             let text = poll_text(heap, answer)?;
             format!(in heap; "poll: {text}")
         }
