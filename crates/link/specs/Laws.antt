@@ -31,11 +31,13 @@ WordFits word.DontKnow loads told = loads ≤ told + 1
 abbrev pub has_failed : {T : Type 0} → ℕ → ℕ → List (Turn T) → Bool
 has_failed repeats count turns = abandoned turns || list_any (λ lost. lost == repeats + 1) (take count (losses turns))
 
--- the law of a message, by its loads and what belongs to it: the hut is told a first part of its loads, in order, each once and
--- with its position; its word fits what was told; and the word is another than OK exactly if the message failed
+-- the law of a message, by its loads and what belongs to it
 pub record IsTruthful {T : Type 0} (repeats : ℕ) (loads : List T) (turns : List (Turn T)) : Type 0 where
+  -- the hut is told a first part of its loads, in order, each once and with its position
   pub in_order : told_in turns ≡ take (length (told_in turns)) (positioned true loads)
+  -- its word, if it has one, fits what was told
   pub word_fits : IfSome (said turns) (λ word. WordFits word (length loads) (length (told_in turns)))
+  -- and is another than OK exactly if the message failed
   pub failure : IfSome (said turns) (λ said. (said ≢ word.Ok) ↔ IsTrue (has_failed repeats (length loads) turns))
 
 -- the outcome of a message, if it has a word: the word, and how many of its loads were told
@@ -46,11 +48,13 @@ message_outcome (Some word) told = Ok (word, told)
 module _ {T : Type 0} where
   -- the law of a history: every message of it is truthful
   abbrev pub IsLawful : List T → ℕ → List (Event T) → Type 0
-  IsLawful book repeats history = All (λ message. IsTruthful repeats (loads_of book message) message.turns) (messages (turns history))
+  IsLawful book repeats history =
+      All (λ message. IsTruthful repeats (loads_of book message) message.turns) (messages (turns history))
 
   -- every history that leads to the link before goes on with these events to the link after, and the law holds of it
   abbrev pub StaysLawful : List T → LinkState T → List (Event T) → LinkState T → Type 0
-  StaysLawful book before events after = (repeats : ℕ) (history : List (Event T)) → HistoryLeads book repeats history before
+  StaysLawful book before events after =
+      (repeats : ℕ) (history : List (Event T)) → HistoryLeads book repeats history before
       → HistoryLeads book repeats (history ++ events) after × IsLawful book repeats (history ++ events)
 
   -- the outcome of a history: that of its last message

@@ -94,5 +94,6 @@ abbrev pub marked_link_of : {T C D : Type 0} → Ghosts (RainState C) T → Ghos
 marked_link_of k l link = record { link = plain k l link; to_hut = rain_marks link.to_hut; back = rain_marks link.back }
 
 -- a link over a rain over a wire and a rain over a store, as plain values
-abbrev pub marked_link : {T : Type 0} → loads.Ghosts T → LinkParts T (RainState (Wire T)) (RainState (List (Frame EmptyLoad))) → MarkedLink T
+abbrev pub marked_link : {T : Type 0} → loads.Ghosts T
+    → LinkParts T (RainState (Wire T)) (RainState (List (Frame EmptyLoad))) → MarkedLink T
 marked_link kind link = marked_link_of (rains (wires kind)) (rains stores) link

@@ -85,7 +85,9 @@ abbrev pub examples : Examples
 examples = record {
   frame = 129 ∷ 0 ∷ 0 ∷ 0 ∷ 7 ∷ [];
   reply = 96 ∷ [];
-  pieces = Ok (record { zoom = 20; column = 1048575; row = 0; number = 0; body = 0; held = refl }) ∷ Err OutsideRanges ∷ Err OutsideRanges ∷ [];
+  pieces =
+      Ok (record { zoom = 20; column = 1048575; row = 0; number = 0; body = 0; held = refl })
+      ∷ Err OutsideRanges ∷ Err OutsideRanges ∷ [];
   requests = Err BadCount ∷ Err BeyondBook ∷ Ok tt ∷ [];
   lost_frame = record { accepted = true; outcome = Ok (DontKnow, 0) };
   abandoned = record { accepted = true; outcome = Ok (NotOk, 1) };
