@@ -1,5 +1,5 @@
-// The book: loads of one kind, in order, read from octets.
-ghost use Rattle.std.specs.Prelude.{◌≡◌, ◌<◌, List, length, IfOk, MatchResult};
+//! The book: loads of one kind, in order.
+ghost use Rattle.std.specs.Prelude.{◌≡◌, ◌<◌, List, length, IfOk, MatchResult, vec_items};
 ghost use Rattle.std.specs.List.{slice_get, flat_map};
 ghost use Rattle.loads.specs.Books.{book_reads};
 ghost use Rattle.loads.specs.declared.faults.Fault.TheVariants.{NoMemory};
@@ -9,7 +9,7 @@ use crate::kinds::Load;
 use std::alloc::Global;
 use std::marker::Model;
 
-// The loads that messages are taken from.
+/// The loads that messages are taken from.
 #[derive(Drop)]
 pub struct Book<T> {
     loads: Vec<T>,
@@ -24,12 +24,28 @@ impl<T> Model for Book<T> {
     ghost view = { λ book. vec_items book.loads };
 }
 
+impl<T> Book<T> {
+    /// The book of these loads.
+    pub fn new(loads: Vec<T>) -> Book<T>
+        ensures answer { result ≡ vec_items loads }
+    {
+        Book { loads }
+    }
+}
+
 impl<T: Load> Book<T> {
-    // At most `count` loads, up to the first record that spells none. Open: whether there is memory
-    // for them, where there are any.
+    /// At most `count` loads, up to the first record that spells none. Open: whether there is memory
+    /// for them, where there are any.
     pub fn read(heap: Global, count: usize, octets: &[u8]) -> Result<Book<T>, Fault>
-        ensures cases { MatchResult result (λ book. book ≡ book_reads T.Load count octets.now) (λ fault. (fault ≡ NoMemory) × (0 < length (book_reads T.Load count octets.now))) }
-        ensures back { (loads : List T) → count ≡ length loads → octets.now ≡ flat_map T.spelled loads → IfOk result (λ book. book ≡ loads) }
+        ensures cases {
+            MatchResult result
+            (λ book. book ≡ book_reads T.Load count octets.now)
+            (λ fault. (fault ≡ NoMemory) × (0 < length (book_reads T.Load count octets.now)))
+        }
+        ensures back {
+            (loads : List T) → count ≡ length loads → octets.now ≡ flat_map T.spelled loads
+            → IfOk result (λ book. book ≡ loads)
+        }
     {
         let mut loads = Vec::new(heap);
         let mut rest = octets;
@@ -46,14 +62,14 @@ impl<T: Load> Book<T> {
         Ok(Book { loads })
     }
 
-    // How many loads there are.
+    /// How many loads there are.
     pub fn len(&self) -> usize
         ensures answer { result ≡ length self.now }
     {
         self.loads.len()
     }
 
-    // The load at a place, counted from 0.
+    /// The load at a place, counted from 0, or none behind the last.
     pub fn load(&self, place: usize) -> Option<T>
         ensures answer { result ≡ slice_get self.now place }
     {
