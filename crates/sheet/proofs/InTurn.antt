@@ -6,10 +6,10 @@ use Rattle.loads.specs.declared.kinds.Load.{Ghosts}
 use Rattle.sheet.specs.declared.faults.ReadError.{ReadError}
 use Rattle.sheet.specs.declared.faults.ReadError.TheVariants.{Refused, NoMemory}
 use Rattle.sheet.specs.declared.sections.Section.{Section}
-use Rattle.sheet.specs.Faults.{Fails}
+use Rattle.sheet.specs.Faults.{and_then, Fails}
 use Rattle.sheet.specs.Layouts.{octets_of}
 use Rattle.sheet.specs.Parts.{PartState}
-use Rattle.sheet.specs.Sections.{PartsRead, section_state, before, then_section, section_reads, sections_read}
+use Rattle.sheet.specs.Sections.{PartsRead, section_state, before, section_reads, sections_read}
 
 -- the section at an index, before those behind it
 section_at : (sections : List Section) (i : ℕ) (section : Section) → i < length sections → section ≡ get_or sections i section → drop i sections ≡ section ∷ drop (i + 1) sections
@@ -30,17 +30,17 @@ module _ {T : Type 0} where
   before_before parts others (Err fault) = refl
 
   -- one section more is read
-  pub section_more : (now more : List (PartState T)) (section others : PartsRead T) → before now section ≡ Ok more → before now (then_section section others) ≡ before more others
+  pub section_more : (now more : List (PartState T)) (section others : PartsRead T) → before now section ≡ Ok more → before now (and_then section (λ parts. before parts others)) ≡ before more others
   section_more now more (Ok parts) others is = before_before now parts others ∙ ap (λ read. before read others) (search (rules, is))
   section_more now more (Err fault) others is = search rules
 
   -- the whole fails by the section that fails
   pub section_fails : (now : List (PartState T)) (section others whole : PartsRead T) (error : ReadError)
-      → before now (then_section section others) ≡ whole → Fails section error → Fails whole error
+      → before now (and_then section (λ parts. before parts others)) ≡ whole → Fails section error → Fails whole error
   section_fails now section others whole (Refused fault) reads is = sym reads ∙ rw is refl
   section_fails now section others whole NoMemory reads is = tt
 
   -- by index
   pub sections_at : (kind : Ghosts T) (sections : List Section) (i : ℕ) (section : Section) → i < length sections → section ≡ get_or sections i section
-      → sections_read kind (map section_state (drop i sections)) ≡ then_section (section_reads kind (section_state section)) (sections_read kind (map section_state (drop (i + 1) sections)))
+      → sections_read kind (map section_state (drop i sections)) ≡ and_then (section_reads kind (section_state section)) (λ parts. before parts (sections_read kind (map section_state (drop (i + 1) sections))))
   sections_at kind sections i section less is = ap (λ sections. sections_read kind (map section_state sections)) (section_at sections i section less is)

@@ -1,12 +1,12 @@
 -- The sections of a layout that was read, and the parts that were read of them.
-use Rattle.std.proofs.Common.{◌≡◌, ℕ, ◌+◌, ◌-◌, ◌≤◌, List, ◌++◌, length, Ok, Err, take, drop, slice_range, refl, ap, sym, ◌∙◌, rules, tests, arith, length-take-le, []}
+use Rattle.std.proofs.Common.{◌≡◌, ℕ, ◌+◌, ◌-◌, ◌≤◌, List, ◌++◌, length, Ok, take, drop, slice_range, refl, ap, sym, ◌∙◌, rules, tests, arith, length-take-le, []}
 use Rattle.std.proofs.lemmas.List.{take-append-drop, append-nil, length-drop}
 use Rattle.std.proofs.lemmas.List.Folds.{drop_split}
 use Rattle.loads.specs.declared.kinds.Load.{Ghosts}
 use Rattle.sheet.specs.Layouts.{LayoutState, trailer_place, trailer_of, lists_of, distance, start_of, sections_of, layout_reads, octets_of}
-use Rattle.sheet.specs.Sections.{PartsRead, sections_read}
-use Rattle.sheet.specs.Sheets.{SheetParts, with_repeats, sheet_read, Covers}
-use Rattle.sheet.proofs.SectionLaws.{AreLaid, sections_have}
+use Rattle.sheet.specs.Sections.{sections_read}
+use Rattle.sheet.specs.Sheets.{SheetParts, sheet_read, Covers}
+use Rattle.sheet.proofs.SectionLaws.{AreLaid, then_ok, sections_have}
 
 -- distances that fit
 record AreOrdered (place : ℕ) (trailer : List ℕ) : Type 0 where
@@ -46,17 +46,15 @@ sections_laid lists trailer ordered =
     (cut_whole a b c lists a_le_b b_le_c, (refl, (sym a_ends, (rw a_ends (sym b_ends), (rw (a_ends, b_ends) (sym c_ends), tt)))))
 
 module _ {T : Type 0} where
-  -- the parts of a sheet were read
-  parts_of : (repeats : ℕ) (read : PartsRead T) (sheet : SheetParts T) → with_repeats repeats read ≡ Ok sheet → read ≡ Ok sheet.parts
-  parts_of repeats (Ok parts) sheet is = search rules
-  parts_of repeats (Err fault) sheet is = search rules
-
-  -- and cover it
+  -- the parts of a sheet cover it
   pub sheet_covers : (kind : Ghosts T) (octets : List ℕ) (layout : LayoutState) (sheet : SheetParts T) → layout_reads octets ≡ Ok layout → sheet_read kind layout ≡ Ok sheet → Covers sheet.parts octets
   sheet_covers kind octets layout sheet laid is =
       let (sections, ordered) = layout_sections octets layout laid in
       let (whole, placed) = sections_laid (lists_of octets) (trailer_of octets) ordered in
-      let have = sections_have kind layout.sections sheet.parts (parts_of layout.repeats (sections_read kind layout.sections) sheet is) in (
+      let (parts, read, made) = then_ok (sections_read kind layout.sections) _ sheet is in
+      let have = sections_have kind layout.sections parts read in
+      let same : parts ≡ sheet.parts = search (rules, made) in
+      rw (← same) (
         ap (λ lists. lists ++ trailer_of octets) (have.covers ∙ ap octets_of sections ∙ whole) ∙ take-append-drop (trailer_place octets) octets,
         have.placed 0 (rw sections placed),
       )

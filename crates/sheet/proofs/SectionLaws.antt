@@ -1,7 +1,8 @@
 -- What parts have that were read of sections.
-use Rattle.std.proofs.Common.{◌≡◌, ℕ, zero, suc, ◌+◌, ◌<◌, ◌≤◌, List, [], ◌∷◌, ◌++◌, length, Ok, Err, Some, None, Option, take, drop, subst, refl, ap, ◌∙◌, rules, arith}
+use Rattle.std.proofs.Common.{◌≡◌, ℕ, zero, suc, ◌+◌, ◌<◌, ◌≤◌, List, [], ◌∷◌, ◌++◌, length, Ok, Err, Result, Some, None, Option, take, drop, subst, refl, ap, ◌∙◌, rules, arith}
 use Rattle.std.specs.List.{flat_map}
 use Rattle.std.specs.Option.{option_map}
+use Rattle.std.specs.Result.{result_ok}
 use Rattle.std.proofs.lemmas.Grind.{flat_map-append}
 use Rattle.std.proofs.lemmas.List.{take-append-drop, length-append}
 use Rattle.std.proofs.lemmas.List.Sums.{sum_by-cons}
@@ -10,10 +11,12 @@ use Rattle.sheet.specs.declared.parts.Way.{Way}
 use Rattle.sheet.specs.declared.parts.Way.TheVariants.{ToHut, Back}
 use Rattle.sheet.specs.declared.sections.SectionKind.{SectionKind}
 use Rattle.sheet.specs.declared.sections.SectionKind.TheVariants as section
+use Rattle.sheet.specs.declared.faults.SheetFault.{SheetFault}
+use Rattle.sheet.specs.Faults.{and_then}
 use Rattle.sheet.specs.Layouts.{octets_of}
 use Rattle.sheet.specs.Parts.{Meaning, a_load, a_mark, a_call, PartState, mark_in, marks_in}
-use Rattle.sheet.specs.Records.{Front, first_load, first_mark, first_call, first_meaning, size_of, record_with, record_of}
-use Rattle.sheet.specs.Sections.{SectionState, PartsRead, room_for, marks_room, before, then_records, then_section, records_read, section_reads, sections_read}
+use Rattle.sheet.specs.Records.{first_mark, first_call, first_meaning, size_of, record_with, record_of}
+use Rattle.sheet.specs.Sections.{SectionState, PartsRead, room_for, marks_room, before, records_read, section_reads, sections_read}
 use Rattle.sheet.specs.Sheets.{AreInPlaces}
 
 -- sections that start at a place, each where the one before it ends
@@ -21,32 +24,22 @@ abbrev pub AreLaid : ℕ → List SectionState → Type 0
 AreLaid place [] = Unit {0}
 AreLaid place (section ∷ sections) = (section.place ≡ place) × AreLaid (place + length section.octets) sections
 
+-- an answer that follows another
+pub then_ok : {X Y : Type 0} (read : Result X SheetFault) (next : X → Result Y SheetFault) (y : Y) → and_then read next ≡ Ok y → (x : X) × (read ≡ Ok x) × (next x ≡ Ok y)
+then_ok (Ok x) next y is = (x, refl, is)
+then_ok (Err fault) next y is = search rules
+
 module _ {T : Type 0} where
+  -- parts before others that were read
+  before_ok : (parts : List (PartState T)) (others : PartsRead T) (all : List (PartState T)) → before parts others ≡ Ok all
+      → (more : List (PartState T)) × (others ≡ Ok more) × (parts ++ more ≡ all)
+  before_ok parts others all is =
+      let (more, read, whole) = then_ok others (λ others. Ok (parts ++ others)) all is in
+      (more, read, search (rules, whole))
+
   -- the octets of parts, one after another
   abbrev pub octets_in : List (PartState T) → List ℕ
   octets_in parts = flat_map (λ part. part.octets) parts
-
-  -- parts before others that were read
-  before_ok : (parts : List (PartState T)) (others : PartsRead T) (all : List (PartState T)) → before parts others ≡ Ok all
-      → (more : List (PartState T)) × (others ≡ Ok more) × (all ≡ parts ++ more)
-  before_ok parts (Ok more) all is = (more, refl, search (rules, is))
-  before_ok parts (Err fault) all is = search rules
-
-  -- a record and what follows it
-  records_ok : (front : Front T) (others : PartState T → List ℕ → PartsRead T) (all : List (PartState T)) → then_records front others ≡ Ok all
-      → (part : PartState T) × (rest : List ℕ) × (more : List (PartState T)) × (front ≡ Ok (part, rest)) × (others part rest ≡ Ok more) × (all ≡ part ∷ more)
-  records_ok (Ok (part, rest)) others all is =
-      let (more, read, whole) = before_ok (part ∷ []) (others part rest) all is in
-      (part, rest, more, refl, read, whole)
-  records_ok (Err fault) others all is = search rules
-
-  -- a section and those that follow it
-  sections_ok : (section others : PartsRead T) (all : List (PartState T)) → then_section section others ≡ Ok all
-      → (parts : List (PartState T)) × (more : List (PartState T)) × (section ≡ Ok parts) × (others ≡ Ok more) × (all ≡ parts ++ more)
-  sections_ok (Ok parts) others all is =
-      let (more, read, whole) = before_ok parts others all is in
-      (parts, more, refl, read, whole)
-  sections_ok (Err fault) others all is = search rules
 
   -- a record is cut off the front of the octets
   record_cut : (kind : Ghosts T) (section : SectionKind) (place : ℕ) (octets behind : List ℕ) (meaning : Option (Meaning T)) (part : PartState T)
@@ -64,8 +57,8 @@ module _ {T : Type 0} where
   -- so a mark takes room for a mark
   takes_room : (way : Way) (kind : Ghosts T) (section : SectionKind) (left : ℕ) (octets : List ℕ) (meaning : Meaning T) → first_meaning kind section octets ≡ Some meaning
       → length (mark_in way meaning) + room_for way section left ≤ room_for way section (suc left)
-  takes_room ToHut kind section.Book left octets meaning is = rw (← (mapped a_load (first_load kind octets) meaning is).1) (omega arith)
-  takes_room Back kind section.Book left octets meaning is = rw (← (mapped a_load (first_load kind octets) meaning is).1) (omega arith)
+  takes_room ToHut kind section.Book left octets meaning is = rw (← (mapped a_load (result_ok (kind.reads (take kind.SIZE octets))) meaning is).1) (omega arith)
+  takes_room Back kind section.Book left octets meaning is = rw (← (mapped a_load (result_ok (kind.reads (take kind.SIZE octets))) meaning is).1) (omega arith)
   takes_room ToHut kind (section.Marks ToHut) left octets meaning is = rw (← (mapped (a_mark ToHut) (first_mark octets) meaning is).1) (omega arith)
   takes_room ToHut kind (section.Marks Back) left octets meaning is = rw (← (mapped (a_mark Back) (first_mark octets) meaning is).1) (omega arith)
   takes_room Back kind (section.Marks ToHut) left octets meaning is = rw (← (mapped (a_mark ToHut) (first_mark octets) meaning is).1) (omega arith)
@@ -87,10 +80,11 @@ module _ {T : Type 0} where
   section_has kind section zero place (octet ∷ octets) parts is = search rules
   section_has kind section (suc room) place (octet ∷ octets) parts is =
       let all = octet ∷ octets in
-      let (part, rest, more, front, read, whole) = records_ok (record_of kind section place all) _ parts is in
+      let ((part, rest), front, next) = then_ok (record_of kind section place all) _ parts is in
+      let (more, read, whole) = before_ok (part ∷ []) (records_read kind section room (place + length part.octets) rest) parts next in
       let (placed, cut, means) = record_cut kind section place all rest (first_meaning kind section all) part front in
       let others = section_has kind section room (place + length part.octets) rest more read in
-      rw whole record {
+      rw (← whole) record {
         covers = ap (λ rest. part.octets ++ rest) others.covers ∙ cut;
         placed = (placed, others.placed);
         few = λ way. omega (arith, takes_room way kind section room all part.meaning means, others.few way, length-append (mark_in way part.meaning) (marks_in way more));
@@ -117,11 +111,12 @@ module _ {T : Type 0} where
   sections_have kind [] [] is = record { covers = refl; placed = λ place laid. tt; few = λ way. omega arith; some = λ some. some }
   sections_have kind [] (part ∷ parts) is = search rules
   sections_have kind (section ∷ sections) parts is =
-      let (first, more, here, there, whole) = sections_ok (section_reads kind section) (sections_read kind sections) parts is in
+      let (first, here, next) = then_ok (section_reads kind section) _ parts is in
+      let (more, there, whole) = before_ok first (sections_read kind sections) parts next in
       let had = section_has kind section.kind section.room section.place section.octets first here in
       let others = sections_have kind sections more there in
       let octets : length (octets_of (section ∷ sections)) ≡ length section.octets + length (octets_of sections) = length-append section.octets (octets_of sections) in
-      rw whole record {
+      rw (← whole) record {
         covers = flat_map-append (λ part. part.octets) first more ∙ rw (had.covers, others.covers) refl;
         placed = λ place laid. in_places_append place first more (subst (λ place. AreInPlaces place first) laid.0 had.placed) (rw had.covers (others.placed (place + length section.octets) laid.1));
         few = λ way.

@@ -7,27 +7,18 @@ use Rattle.sheet.specs.declared.anysheets.AnySheet.TheVariants.{Readings, Pieces
 use Rattle.sheet.specs.declared.faults.SheetFault.{SheetFault}
 use Rattle.sheet.specs.declared.layouts.LoadKind.{LoadKind}
 use Rattle.sheet.specs.declared.layouts.LoadKind.TheVariants.{Reading, Piece}
+use Rattle.sheet.specs.Faults.{and_then}
 use Rattle.sheet.specs.Layouts.{LayoutState, layout_reads, octets_of}
-use Rattle.sheet.specs.Sheets.{SheetParts, sheet_read, Covers}
-
--- a sheet of one kind as a sheet of any kind
-abbrev pub as_any : {T : Type 0} → (SheetParts T → AnySheet) → Result (SheetParts T) SheetFault → Result AnySheet SheetFault
-as_any kind (Ok sheet) = Ok (kind sheet)
-as_any kind (Err fault) = Err fault
+use Rattle.sheet.specs.Sheets.{sheet_read, Covers}
 
 -- the sheet of a layout, by the kind of load
 abbrev pub sheet_by_kind : LoadKind → LayoutState → Result AnySheet SheetFault
-sheet_by_kind Reading layout = as_any Readings (sheet_read readings layout)
-sheet_by_kind Piece layout = as_any Pieces (sheet_read pieces layout)
-
--- the sheet of a layout that was read
-abbrev pub sheet_by_layout : Result LayoutState SheetFault → Result AnySheet SheetFault
-sheet_by_layout (Ok layout) = sheet_by_kind layout.kind layout
-sheet_by_layout (Err fault) = Err fault
+sheet_by_kind Reading layout = and_then (sheet_read readings layout) (λ sheet. Ok (Readings sheet))
+sheet_by_kind Piece layout = and_then (sheet_read pieces layout) (λ sheet. Ok (Pieces sheet))
 
 -- the sheet that octets are, or why they are none: the smallest number, at its first place
 abbrev pub sheet_reads : List ℕ → Result AnySheet SheetFault
-sheet_reads octets = sheet_by_layout (layout_reads octets)
+sheet_reads octets = and_then (layout_reads octets) (λ layout. sheet_by_kind layout.kind layout)
 
 -- a good trailer with octets before it
 abbrev pub HasOctetsBefore : Result LayoutState SheetFault → Type 0

@@ -1,5 +1,5 @@
 -- The trailer of a sheet: which kind of load it has, how many repeats, and its four lists.
-use Rattle.std.specs.Prelude.{ℕ, ◌+◌, ◌*◌, ◌-◌, Bool, if◌then◌else◌, ◌&&◌, ◌||◌, ◌==◌, nat_le, nat_lt, List, [], ◌∷◌, length, map, take, drop, Ok, Err, Result, Some, None, Option, slice_index, slice_range}
+use Rattle.std.specs.Prelude.{ℕ, ◌+◌, ◌*◌, ◌-◌, Bool, if◌then◌else◌, ◌&&◌, ◌||◌, ◌==◌, nat_le, nat_lt, List, [], ◌∷◌, length, take, drop, Ok, Err, Result, Some, None, Option, slice_index, slice_range}
 use Rattle.std.specs.List.{flat_map}
 use Rattle.loads.specs.Octets.{field}
 use Rattle.loads.specs.Pieces.{piece_kind}
@@ -7,27 +7,18 @@ use Rattle.loads.specs.Readings.{reading_kind}
 use Rattle.link.specs.Timers.{most_repeats}
 use Rattle.sheet.specs.declared.faults.SheetFault.{SheetFault}
 use Rattle.sheet.specs.declared.faults.SheetRefusal.TheVariants.{WrongSize, BadSetting, BadDistances}
-use Rattle.sheet.specs.declared.layouts.Layout.{Layout}
 use Rattle.sheet.specs.declared.layouts.LoadKind.{LoadKind}
 use Rattle.sheet.specs.declared.layouts.LoadKind.TheVariants.{Reading, Piece}
 use Rattle.sheet.specs.declared.parts.Way.TheVariants.{ToHut, Back}
 use Rattle.sheet.specs.declared.sections.SectionKind.TheVariants as section
 use Rattle.sheet.specs.Faults.{fault_at}
-use Rattle.sheet.specs.Sections.{SectionState, section_state, section_of}
+use Rattle.sheet.specs.Sections.{SectionState, section_of}
 
 -- what the trailer of a sheet says: the kind of load, the repeats, and the lists before it
 pub record LayoutState : Type 0 where
   pub kind : LoadKind
   pub repeats : ℕ
   pub sections : List SectionState
-
--- a layout as plain values
-abbrev pub layout_state : Layout → LayoutState
-layout_state layout = record {
-  kind = layout.kind;
-  repeats = layout.repeats;
-  sections = map section_state layout.sections;
-}
 
 -- the octets of a trailer
 abbrev pub trailer_size : ℕ

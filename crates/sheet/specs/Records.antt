@@ -24,11 +24,7 @@ refusal_of section.Book = NoLoad
 refusal_of (section.Marks way) = BadMark
 refusal_of section.Calls = BadCall
 
--- the load at the front of octets
-abbrev pub first_load : {T : Type 0} → Ghosts T → List ℕ → Option T
-first_load kind octets = result_ok (kind.reads (take kind.SIZE octets))
-
--- the mark at the front
+-- the mark at the front of octets
 abbrev pub first_mark : List ℕ → Option Mark
 first_mark [] = None
 first_mark (octet ∷ octets) = result_ok (mark_read octet)
@@ -69,7 +65,7 @@ Front T = Result (PartState T × List ℕ) SheetFault
 module _ {T : Type 0} where
   -- what the record at the front of a section means, if it can be read
   abbrev pub first_meaning : Ghosts T → SectionKind → List ℕ → Option (Meaning T)
-  first_meaning kind section.Book octets = option_map a_load (first_load kind octets)
+  first_meaning kind section.Book octets = option_map a_load (result_ok (kind.reads (take kind.SIZE octets)))
   first_meaning kind (section.Marks way) octets = option_map (a_mark way) (first_mark octets)
   first_meaning kind section.Calls octets = option_map a_call (first_call octets)
 
@@ -86,11 +82,6 @@ module _ {T : Type 0} where
     drop (size_of kind meaning) octets,
   )
   record_with kind section place octets None = Err (fault_at (refusal_of section) place)
-
-  -- the record of a request
-  abbrev pub request_record : Ghosts T → ℕ → List ℕ → Front T
-  request_record kind place octets =
-      record_with kind section.Calls place octets (option_map a_call (first_request octets))
 
   -- the record at the front of a section
   abbrev pub record_of : Ghosts T → SectionKind → ℕ → List ℕ → Front T

@@ -9,9 +9,9 @@ use Rattle.sheet.specs.declared.parts.Way.TheVariants.{ToHut, Back}
 use Rattle.sheet.specs.declared.sections.Section.{Section}
 use Rattle.sheet.specs.declared.sections.SectionKind.{SectionKind}
 use Rattle.sheet.specs.declared.sections.SectionKind.TheVariants as section
-use Rattle.sheet.specs.Faults.{fault_at}
+use Rattle.sheet.specs.Faults.{fault_at, and_then}
 use Rattle.sheet.specs.Parts.{PartState, part_state}
-use Rattle.sheet.specs.Records.{Front, refusal_of, record_of}
+use Rattle.sheet.specs.Records.{refusal_of, record_of}
 
 -- what is left of a section: its kind, how many records it may still have, the place of the next one, and the octets
 pub record SectionState : Type 0 where
@@ -59,15 +59,9 @@ abbrev pub PartsRead : Type 0 → Type 0
 PartsRead T = Result (List (PartState T)) SheetFault
 
 module _ {T : Type 0} where
-  -- parts before others; a refusal stands
+  -- parts before others
   abbrev pub before : List (PartState T) → PartsRead T → PartsRead T
-  before parts (Ok others) = Ok (parts ++ others)
-  before parts (Err fault) = Err fault
-
-  -- what follows the record at the front
-  abbrev pub then_records : Front T → (PartState T → List ℕ → PartsRead T) → PartsRead T
-  then_records (Ok (part, rest)) others = before (part ∷ []) (others part rest)
-  then_records (Err fault) others = Err fault
+  before parts others = and_then others (λ others. Ok (parts ++ others))
 
   -- at most so many records, up to the end of the octets, each where the one before it ends; one too many is turned
   -- down where it starts
@@ -75,8 +69,8 @@ module _ {T : Type 0} where
   records_read kind section room place [] = Ok []
   records_read kind section zero place octets = Err (fault_at (refusal_of section) place)
   records_read kind section (suc room) place octets =
-      then_records (record_of kind section place octets)
-      (λ part rest. records_read kind section room (place + length part.octets) rest)
+      and_then (record_of kind section place octets)
+      (λ (part, rest). before (part ∷ []) (records_read kind section room (place + length part.octets) rest))
 
   -- the records of a section
   abbrev pub section_reads : Ghosts T → SectionState → PartsRead T
@@ -89,16 +83,11 @@ module _ {T : Type 0} where
   after_next kind (Err fault) left = Err fault
 
   -- the parts of sections, one behind the other; the first refusal stands
-  abbrev pub then_section : PartsRead T → PartsRead T → PartsRead T
-  then_section (Ok parts) others = before parts others
-  then_section (Err fault) others = Err fault
-
-  -- section by section
   abbrev pub sections_read : Ghosts T → List SectionState → PartsRead T
   sections_read kind [] = Ok []
-  sections_read kind (section ∷ sections) = then_section (section_reads kind section) (sections_read kind sections)
+  sections_read kind (section ∷ sections) =
+      and_then (section_reads kind section) (λ parts. before parts (sections_read kind sections))
 
   -- whether parts were read, without the parts
   abbrev pub passed : PartsRead T → Result (Unit {0}) SheetFault
-  passed (Ok parts) = Ok tt
-  passed (Err fault) = Err fault
+  passed read = and_then read (λ parts. Ok tt)

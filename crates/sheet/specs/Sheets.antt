@@ -1,14 +1,15 @@
 -- A whole sheet: its parts, what they give a run, and why it is turned down.
-use Rattle.std.specs.Prelude.{◌≡◌, ℕ, ◌+◌, List, [], ◌∷◌, ◌++◌, length, Ok, Err, Result}
+use Rattle.std.specs.Prelude.{◌≡◌, ℕ, ◌+◌, List, [], ◌∷◌, ◌++◌, length, Ok, Result}
 use Rattle.std.specs.List.{flat_map}
 use Rattle.loads.specs.declared.kinds.Load.{Ghosts}
 use Rattle.channels.specs.declared.marks.Mark.{Mark}
 use Rattle.link.specs.declared.calls.Call.{Call}
 use Rattle.sheet.specs.declared.faults.SheetFault.{SheetFault}
 use Rattle.sheet.specs.declared.parts.Way.TheVariants.{ToHut, Back}
+use Rattle.sheet.specs.Faults.{and_then}
 use Rattle.sheet.specs.Layouts.{LayoutState, trailer_of}
 use Rattle.sheet.specs.Parts.{PartState, loads_in, marks_in, calls_in}
-use Rattle.sheet.specs.Sections.{PartsRead, sections_read}
+use Rattle.sheet.specs.Sections.{sections_read}
 
 -- a sheet that was read: its repeats and its parts in order; and of these its book, the marks of both ways, and its
 -- calls
@@ -32,14 +33,10 @@ module _ {T : Type 0} where
     calls = calls_in parts;
   }
 
-  -- the sheet of parts that were read
-  abbrev pub with_repeats : ℕ → PartsRead T → Result (SheetParts T) SheetFault
-  with_repeats repeats (Ok parts) = Ok (sheet_of repeats parts)
-  with_repeats repeats (Err fault) = Err fault
-
   -- the sheet of a layout, with loads of one kind
   abbrev pub sheet_read : Ghosts T → LayoutState → Result (SheetParts T) SheetFault
-  sheet_read kind layout = with_repeats layout.repeats (sections_read kind layout.sections)
+  sheet_read kind layout =
+      and_then (sections_read kind layout.sections) (λ parts. Ok (sheet_of layout.repeats parts))
 
   -- parts that start at a place, each where the one before it ends
   abbrev pub AreInPlaces : ℕ → List (PartState T) → Type 0

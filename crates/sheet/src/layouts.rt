@@ -1,6 +1,6 @@
 //! The trailer of a sheet: which kind of load it has, how many repeats, and its four lists.
-ghost use Rattle.std.specs.Prelude.{◌≡◌, ◌<◌, length, map, true, Ok, Err, MatchResult};
-ghost use Rattle.sheet.specs.Layouts.{load_kind, distance, distances_fit, sections_of, layout_state, layout_reads};
+ghost use Rattle.std.specs.Prelude.{◌≡◌, ◌<◌, length, map, true};
+ghost use Rattle.sheet.specs.Layouts.{load_kind, distance, distances_fit, sections_of, layout_reads};
 ghost use Rattle.sheet.specs.Sections.{section_state};
 
 use crate::faults::{SheetFault, SheetRefusal};
@@ -8,6 +8,7 @@ use crate::parts::Way;
 use crate::sections::{Section, SectionKind};
 use link::MOST_REPEATS;
 use loads::{Load, Piece, Reading};
+use std::marker::Model;
 
 // How many octets a trailer has: four distances of four octets, a kind and the repeats.
 const TRAILER_SIZE: usize = 18;
@@ -23,11 +24,33 @@ pub(crate) enum LoadKind {
 }
 
 // What a trailer says: the settings, and the four lists before it.
-#[derive(Clone, Copy)]
+#[derive(Drop)]
 pub(crate) struct Layout<'s> {
     pub(crate) kind: LoadKind,
     pub(crate) repeats: u8,
     pub(crate) sections: [Section<'s>; 4],
+}
+
+// Clauses see its sections as plain values. It has no more repeats than a link joins with, and room for no more marks
+// of one way than a rain takes.
+impl<'s> Model for Layout<'s> {
+    ghost use Rattle.std.specs.Prelude.{◌≤◌, map};
+    ghost use Rattle.channels.specs.Marks.{most_marks};
+    ghost use Rattle.link.specs.Timers.{most_repeats};
+    ghost use Rattle.sheet.specs.declared.parts.Way.{Way as AnyWay};
+    ghost use Rattle.sheet.specs.Layouts.{LayoutState};
+    ghost use Rattle.sheet.specs.Sections.{section_state, marks_room};
+
+    ghost Value = { LayoutState };
+
+    ghost view = { λ layout. record {
+      kind = layout.kind;
+      repeats = layout.repeats;
+      sections = map section_state layout.sections;
+    } };
+
+    ghost invariant = { λ layout. (layout.repeats ≤ most_repeats)
+        × ((way : AnyWay) → marks_room way (map section_state layout.sections) ≤ most_marks) };
 }
 
 // The kind of load that an octet names, if a sheet may have it.
@@ -79,9 +102,7 @@ fn sections_of<'s>(lists: &'s [u8], trailer: &[u8; TRAILER_SIZE]) -> [Section<'s
 impl<'s> Layout<'s> {
     // What the trailer of a sheet says, or why the sheet is turned down for it.
     pub(crate) fn read(octets: &'s [u8]) -> Result<Layout<'s>, SheetFault>
-        ensures cases { MatchResult result
-            (λ layout. layout_reads octets.now ≡ Ok (layout_state layout))
-            (λ fault. layout_reads octets.now ≡ Err fault) }
+        ensures answer { result ≡ layout_reads octets.now }
     {
         let size = octets.len();
         let refused = |refusal, place| Err(SheetFault { refusal, place });

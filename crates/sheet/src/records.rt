@@ -1,8 +1,8 @@
 //! The record at the front of a list's octets, and the octets behind it.
-ghost use Rattle.std.specs.Prelude.{◌≡◌, Ok, Err, MatchResult};
+ghost use Rattle.std.specs.Prelude.{◌≡◌, Ok, Err, MatchResult, slice_index};
 ghost use Rattle.sheet.specs.declared.sections.SectionKind.TheVariants.{Book, Marks, Calls};
 ghost use Rattle.sheet.specs.Parts.{part_state};
-ghost use Rattle.sheet.specs.Records.{plain_call, request_record as request_record_of, record_of};
+ghost use Rattle.sheet.specs.Records.{plain_call, request_letter, record_of};
 
 use crate::faults::{SheetFault, SheetRefusal};
 use crate::parts::{Part, Way};
@@ -71,14 +71,15 @@ pub(crate) fn mark_record<'s, T: Load>(
     ))
 }
 
-// A request: its letter, start and count.
+// A request, by its letter: start and count follow.
 fn request_record<'s, T: Load>(
     place: usize,
     octets: &'s [u8],
 ) -> Result<(Part<'s, T>, &'s [u8]), SheetFault>
+    requires { slice_index octets.now 0 ≡ request_letter }
     ensures cases { MatchResult result
-        (λ front. request_record_of T.Load place octets.now ≡ Ok (part_state front.0, front.1.now))
-        (λ fault. request_record_of T.Load place octets.now ≡ Err fault) }
+        (λ front. record_of T.Load Calls place octets.now ≡ Ok (part_state front.0, front.1.now))
+        (λ fault. record_of T.Load Calls place octets.now ≡ Err fault) }
 {
     let [
         _letter,

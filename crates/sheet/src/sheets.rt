@@ -6,9 +6,8 @@ ghost use Rattle.link.specs.Timers.{most_repeats};
 ghost use Rattle.sheet.specs.declared.faults.ReadError.TheVariants.{NoMemory};
 ghost use Rattle.sheet.specs.declared.parts.Way.{Way as AnyWay};
 ghost use Rattle.sheet.specs.Faults.{Fails};
-ghost use Rattle.sheet.specs.Layouts.{layout_state, octets_of};
+ghost use Rattle.sheet.specs.Layouts.{octets_of};
 ghost use Rattle.sheet.specs.Parts.{part_state, loads_in, marks_in, calls_in};
-ghost use Rattle.sheet.specs.Sections.{marks_room};
 ghost use Rattle.sheet.specs.Sheets.{sheet_of, sheet_read};
 
 use crate::checks::check_sections;
@@ -160,8 +159,10 @@ impl<'s, T: Load> Sheet<'s, T> {
         parts: Vec<Part<'s, T>>,
     ) -> Result<Sheet<'s, T>, AllocError>
         requires repeats { repeats ≤ most_repeats }
-        requires marks { (way : AnyWay) → length (marks_in way (map part_state (vec_items parts))) ≤ most_marks }
-        ensures made { IfOk result (λ sheet. sheet ≡ sheet_of repeats (map part_state (vec_items parts.entry))) }
+        requires marks { (way : AnyWay)
+            → length (marks_in way (map part_state (vec_items parts))) ≤ most_marks }
+        ensures made { IfOk result
+            (λ sheet. sheet ≡ sheet_of repeats (map part_state (vec_items parts.entry))) }
         ensures memory { IfErr result (λ _. 0 < length (map part_state (vec_items parts.entry))) }
     {
         Ok(Sheet {
@@ -177,15 +178,12 @@ impl<'s, T: Load> Sheet<'s, T> {
     // The sheet of a layout. Open: whether there is memory for it, where it is not turned down and its lists have
     // octets.
     pub(crate) fn read(heap: Global, layout: &Layout<'s>) -> Result<Sheet<'s, T>, ReadError>
-        requires repeats { layout.now.repeats ≤ most_repeats }
-        requires marks { (way : AnyWay) → marks_room way (layout_state layout.now).sections ≤ most_marks }
         ensures cases { MatchResult result
-            (λ sheet. sheet_read T.Load (layout_state layout.now) ≡ Ok sheet)
-            (λ error. Fails (sheet_read T.Load (layout_state layout.now)) error) }
+            (λ sheet. sheet_read T.Load layout.now ≡ Ok sheet)
+            (λ error. Fails (sheet_read T.Load layout.now) error) }
         ensures memory { IfErr result
-            (λ error. error ≡ NoMemory → 0 < length (octets_of (layout_state layout.now).sections)) }
-        ensures good { IfErr result
-            (λ error. error ≡ NoMemory → IsOk (sheet_read T.Load (layout_state layout.now))) }
+            (λ error. error ≡ NoMemory → 0 < length (octets_of layout.now.sections)) }
+        ensures good { IfErr result (λ error. error ≡ NoMemory → IsOk (sheet_read T.Load layout.now)) }
     {
         check_sections::<T>(&layout.sections)?;
         let parts = read_sections(heap, &layout.sections)?;
