@@ -108,7 +108,8 @@ abbrev pub layout_reads : List ℕ → Result LayoutState SheetFault
 layout_reads octets =
     if nat_lt (length octets) trailer_size || nat_lt most_octets (length octets)
     then Err (fault_at WrongSize (length octets))
-    else settings_read (load_kind (slice_index (trailer_of octets) kind_at)) (lists_of octets) (trailer_of octets)
+    else settings_read
+    (load_kind (slice_index (trailer_of octets) kind_at)) (lists_of octets) (trailer_of octets)
 
 -- the octets of sections, one after another
 abbrev pub octets_of : List SectionState → List ℕ

@@ -23,9 +23,12 @@ pub record PartState (T : Type 0) : Type 0 where
 module _ {T : Type 0} where
   -- a part as its place, the octets that it borrows, and their meaning
   abbrev pub part_state : Part T → PartState T
-  part_state (part.BookRecord place octets load) = record { place = place; octets = octets.now; meaning = a_load load }
-  part_state (part.Mark place octets way mark) = record { place = place; octets = octets.now; meaning = a_mark way mark }
-  part_state (part.Call place octets call) = record { place = place; octets = octets.now; meaning = a_call call }
+  part_state (part.BookRecord place octets load) =
+      record { place = place; octets = octets.now; meaning = a_load load }
+  part_state (part.Mark place octets way mark) =
+      record { place = place; octets = octets.now; meaning = a_mark way mark }
+  part_state (part.Call place octets call) =
+      record { place = place; octets = octets.now; meaning = a_call call }
 
   -- the load that a meaning has, if it is one of the book
   abbrev pub load_in : Meaning T → List T

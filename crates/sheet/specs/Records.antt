@@ -31,7 +31,8 @@ first_mark (octet ∷ octets) = result_ok (mark_read octet)
 
 -- the calls that have no operands
 abbrev pub plain_calls : List Call
-plain_calls = Send ∷ Carry ∷ Tell ∷ Reply ∷ Return ∷ Retry ∷ Abandon ∷ Confirm ∷ Part ∷ Break ∷ Meet ∷ []
+plain_calls =
+    Send ∷ Carry ∷ Tell ∷ Reply ∷ Return ∷ Retry ∷ Abandon ∷ Confirm ∷ Part ∷ Break ∷ Meet ∷ []
 
 -- the one of them that has this letter
 abbrev pub plain_call : ℕ → Option Call
@@ -65,7 +66,8 @@ Front T = Result (PartState T × List ℕ) SheetFault
 module _ {T : Type 0} where
   -- what the record at the front of a section means, if it can be read
   abbrev pub first_meaning : Ghosts T → SectionKind → List ℕ → Option (Meaning T)
-  first_meaning kind section.Book octets = option_map a_load (result_ok (kind.reads (take kind.SIZE octets)))
+  first_meaning kind section.Book octets =
+      option_map a_load (result_ok (kind.reads (take kind.SIZE octets)))
   first_meaning kind (section.Marks way) octets = option_map (a_mark way) (first_mark octets)
   first_meaning kind section.Calls octets = option_map a_call (first_call octets)
 
@@ -85,4 +87,5 @@ module _ {T : Type 0} where
 
   -- the record at the front of a section
   abbrev pub record_of : Ghosts T → SectionKind → ℕ → List ℕ → Front T
-  record_of kind section place octets = record_with kind section place octets (first_meaning kind section octets)
+  record_of kind section place octets =
+      record_with kind section place octets (first_meaning kind section octets)

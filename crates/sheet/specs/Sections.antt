@@ -42,7 +42,8 @@ room_of section.Calls octets = most_calls
 
 -- a whole section
 abbrev pub section_of : SectionKind → ℕ → List ℕ → SectionState
-section_of kind place octets = record { kind = kind; room = room_of kind octets; place = place; octets = octets }
+section_of kind place octets =
+    record { kind = kind; room = room_of kind octets; place = place; octets = octets }
 
 -- how many marks for frames of one way a section of a kind may have, if it has room for so many records
 abbrev pub room_for : Way → SectionKind → ℕ → ℕ
@@ -70,14 +71,17 @@ module _ {T : Type 0} where
   records_read kind section zero place octets = Err (fault_at (refusal_of section) place)
   records_read kind section (suc room) place octets =
       and_then (record_of kind section place octets)
-      (λ (part, rest). before (part ∷ []) (records_read kind section room (place + length part.octets) rest))
+      (λ (part, rest). before (part ∷ [])
+      (records_read kind section room (place + length part.octets) rest))
 
   -- the records of a section
   abbrev pub section_reads : Ghosts T → SectionState → PartsRead T
-  section_reads kind section = records_read kind section.kind section.room section.place section.octets
+  section_reads kind section =
+      records_read kind section.kind section.room section.place section.octets
 
   -- what a section reads as, by its next record and what it leaves
-  abbrev pub after_next : Ghosts T → Result (Option (Part T)) SheetFault → SectionState → PartsRead T
+  abbrev pub after_next :
+      Ghosts T → Result (Option (Part T)) SheetFault → SectionState → PartsRead T
   after_next kind (Ok (Some part)) left = before (part_state part ∷ []) (section_reads kind left)
   after_next kind (Ok None) left = Ok []
   after_next kind (Err fault) left = Err fault

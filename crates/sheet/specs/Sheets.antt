@@ -41,7 +41,8 @@ module _ {T : Type 0} where
   -- parts that start at a place, each where the one before it ends
   abbrev pub AreInPlaces : ℕ → List (PartState T) → Type 0
   AreInPlaces place [] = Unit {0}
-  AreInPlaces place (part ∷ parts) = (part.place ≡ place) × AreInPlaces (place + length part.octets) parts
+  AreInPlaces place (part ∷ parts) =
+      (part.place ≡ place) × AreInPlaces (place + length part.octets) parts
 
   -- nothing is skipped and nothing overlaps: the parts in order, and the trailer behind them, are the sheet
   abbrev pub Covers : List (PartState T) → List ℕ → Type 0

@@ -26,7 +26,8 @@ impl<'s> AnySheet<'s> {
         ensures cases { MatchResult result
             (λ sheet. sheet_reads octets.now ≡ Ok sheet)
             (λ error. Fails (sheet_reads octets.now) error) }
-        ensures memory { IfErr result (λ error. error ≡ NoMemory → HasOctetsBefore (layout_reads octets.now)) }
+        ensures memory { IfErr result
+            (λ error. error ≡ NoMemory → HasOctetsBefore (layout_reads octets.now)) }
         ensures good { IfErr result (λ error. error ≡ NoMemory → IsOk (sheet_reads octets.now)) }
         ensures law { IfOk result (λ sheet. IsCovered sheet octets.now) }
     {

@@ -1,7 +1,6 @@
 //! A record of a sheet as a part of it: its place, its octets, and what they mean.
 ghost use Rattle.std.specs.Prelude.{◌≡◌};
-ghost use Rattle.std.specs.Option.{option_to_list};
-ghost use Rattle.sheet.specs.Parts.{part_state, mark_in};
+ghost use Rattle.sheet.specs.Parts.{part_state};
 
 use channels::Mark;
 use link::Call;
@@ -58,30 +57,6 @@ impl<'s, T> Part<'s, T> {
             Part::BookRecord { octets, .. }
             | Part::Mark { octets, .. }
             | Part::Call { octets, .. } => octets,
-        }
-    }
-    // The mark that it is for frames of this way.
-    pub(crate) fn mark(&self, way: Way) -> Option<Mark>
-        ensures answer { option_to_list result ≡ mark_in way (part_state self.now).meaning }
-    {
-        match (way, self) {
-            (
-                Way::ToHut,
-                Part::Mark {
-                    way: Way::ToHut,
-                    mark,
-                    ..
-                },
-            ) => Some(*mark),
-            (
-                Way::Back,
-                Part::Mark {
-                    way: Way::Back,
-                    mark,
-                    ..
-                },
-            ) => Some(*mark),
-            _ => None,
         }
     }
 }

@@ -18,10 +18,12 @@ fn read_section<'s, T: Load>(
     section: Section<'s>,
 ) -> Result<(), ReadError>
     ensures cases { MatchResult result
-        (λ _. before (map part_state (vec_items parts.old)) (section_reads T.Load (section_state section.entry))
+        (λ _. before (map part_state (vec_items parts.old))
+        (section_reads T.Load (section_state section.entry))
         ≡ Ok (map part_state (vec_items parts.new)))
         (λ error. Fails (section_reads T.Load (section_state section.entry)) error) }
-    ensures memory { IfErr result (λ error. error ≡ NoMemory → 0 < length section.entry.octets.now) }
+    ensures memory { IfErr result
+        (λ error. error ≡ NoMemory → 0 < length section.entry.octets.now) }
 {
     let mut left = section;
     while let Some(part) = left.next()? {

@@ -46,7 +46,8 @@ pub(crate) fn mark_record<'s, T: Load>(
     octets: &'s [u8],
 ) -> Result<(Part<'s, T>, &'s [u8]), SheetFault>
     ensures cases { MatchResult result
-        (λ front. record_of T.Load (Marks way) place octets.now ≡ Ok (part_state front.0, front.1.now))
+        (λ front. record_of T.Load (Marks way) place octets.now
+        ≡ Ok (part_state front.0, front.1.now))
         (λ fault. record_of T.Load (Marks way) place octets.now ≡ Err fault) }
 {
     let fault = SheetFault {

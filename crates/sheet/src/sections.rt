@@ -92,7 +92,8 @@ impl<'s> Section<'s> {
 
     // The next record, if there is one, which is then left behind; or why the sheet is turned down there.
     pub(crate) fn next<T: Load>(&mut self) -> Result<Option<Part<'s, T>>, SheetFault>
-        ensures cases { section_reads T.Load (section_state self.old) ≡ after_next T.Load result (section_state self.new) }
+        ensures cases { section_reads T.Load (section_state self.old)
+            ≡ after_next T.Load result (section_state self.new) }
         ensures fewer { IfOk result (λ next. IfSome next (λ _. self.new.room < self.old.room)) }
         ensures some { IfOk result (λ next. IfSome next (λ _. 0 < length self.old.octets.now)) }
     {

@@ -125,13 +125,15 @@ fn marks_among<'s, T>(
     parts: &[Part<'s, T>],
     way: Way,
 ) -> Result<Vec<Mark>, AllocError>
-    ensures made { IfOk result (λ marks. vec_items marks ≡ marks_in way (map part_state parts.now)) }
+    ensures made { IfOk result
+        (λ marks. vec_items marks ≡ marks_in way (map part_state parts.now)) }
     ensures memory { IfErr result (λ _. 0 < length parts.now) }
 {
     let mut marks = Vec::new(heap);
     for part in parts {
-        if let Some(mark) = part.mark(way) {
-            marks.push(mark)?;
+        match part {
+            Part::Mark { way: its, mark, .. } if *its == way => marks.push(*mark)?,
+            _ => {}
         }
     }
     Ok(marks)
@@ -183,7 +185,8 @@ impl<'s, T: Load> Sheet<'s, T> {
             (λ error. Fails (sheet_read T.Load layout.now) error) }
         ensures memory { IfErr result
             (λ error. error ≡ NoMemory → 0 < length (octets_of layout.now.sections)) }
-        ensures good { IfErr result (λ error. error ≡ NoMemory → IsOk (sheet_read T.Load layout.now)) }
+        ensures good { IfErr result
+            (λ error. error ≡ NoMemory → IsOk (sheet_read T.Load layout.now)) }
     {
         check_sections::<T>(&layout.sections)?;
         let parts = read_sections(heap, &layout.sections)?;
