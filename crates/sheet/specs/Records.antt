@@ -49,8 +49,7 @@ request_size = 5
 -- the request at the front
 abbrev pub first_request : List ℕ → Option Call
 first_request octets =
-    if nat_le request_size (length octets)
-    then Some (Request (field 1 2 octets) (field 3 2 octets))
+    if nat_le request_size (length octets) then Some (Request (field 1 2 octets) (field 3 2 octets))
     else None
 
 -- the call at the front

@@ -22,12 +22,8 @@ pub record SectionState : Type 0 where
 
 -- a section as plain values
 abbrev pub section_state : Section → SectionState
-section_state section = record {
-  kind = section.kind;
-  room = section.room;
-  place = section.place;
-  octets = section.octets.now;
-}
+section_state left =
+    record { kind = left.kind; room = left.room; place = left.place; octets = left.octets.now }
 
 -- the most calls of a sheet
 abbrev pub most_calls : ℕ

@@ -105,54 +105,6 @@ impl<'s, T> Sheet<'s, T> {
     }
 }
 
-// The loads among parts. Open: whether there is memory for them, where there are parts.
-fn loads_among<'s, T: Load>(heap: Global, parts: &[Part<'s, T>]) -> Result<Vec<T>, AllocError>
-    ensures made { IfOk result (λ loads. vec_items loads ≡ loads_in (map part_state parts.now)) }
-    ensures memory { IfErr result (λ _. 0 < length parts.now) }
-{
-    let mut loads = Vec::new(heap);
-    for part in parts {
-        if let Part::BookRecord { load, .. } = part {
-            loads.push(*load)?;
-        }
-    }
-    Ok(loads)
-}
-
-// The marks of one way among parts. Open: whether there is memory for them, where there are parts.
-fn marks_among<'s, T>(
-    heap: Global,
-    parts: &[Part<'s, T>],
-    way: Way,
-) -> Result<Vec<Mark>, AllocError>
-    ensures made { IfOk result
-        (λ marks. vec_items marks ≡ marks_in way (map part_state parts.now)) }
-    ensures memory { IfErr result (λ _. 0 < length parts.now) }
-{
-    let mut marks = Vec::new(heap);
-    for part in parts {
-        match part {
-            Part::Mark { way: its, mark, .. } if *its == way => marks.push(*mark)?,
-            _ => {}
-        }
-    }
-    Ok(marks)
-}
-
-// The calls among parts. Open: whether there is memory for them, where there are parts.
-fn calls_among<'s, T>(heap: Global, parts: &[Part<'s, T>]) -> Result<Vec<Call>, AllocError>
-    ensures made { IfOk result (λ calls. vec_items calls ≡ calls_in (map part_state parts.now)) }
-    ensures memory { IfErr result (λ _. 0 < length parts.now) }
-{
-    let mut calls = Vec::new(heap);
-    for part in parts {
-        if let Part::Call { call, .. } = part {
-            calls.push(*call)?;
-        }
-    }
-    Ok(calls)
-}
-
 impl<'s, T: Load> Sheet<'s, T> {
     // The sheet of these parts. Open: whether there is memory for what they give a run, where there are any.
     fn of_parts(
@@ -167,13 +119,33 @@ impl<'s, T: Load> Sheet<'s, T> {
             (λ sheet. sheet ≡ sheet_of repeats (map part_state (vec_items parts.entry))) }
         ensures memory { IfErr result (λ _. 0 < length (map part_state (vec_items parts.entry))) }
     {
+        let mut loads = Vec::new(heap);
+        let mut to_hut = Vec::new(heap);
+        let mut back = Vec::new(heap);
+        let mut calls = Vec::new(heap);
+        for part in &parts {
+            match part {
+                Part::BookRecord { load, .. } => loads.push(*load)?,
+                Part::Mark {
+                    way: Way::ToHut,
+                    mark,
+                    ..
+                } => to_hut.push(*mark)?,
+                Part::Mark {
+                    way: Way::Back,
+                    mark,
+                    ..
+                } => back.push(*mark)?,
+                Part::Call { call, .. } => calls.push(*call)?,
+            }
+        }
         Ok(Sheet {
             repeats,
-            book: Book::new(loads_among(heap, &parts)?),
-            to_hut: marks_among(heap, &parts, Way::ToHut)?,
-            back: marks_among(heap, &parts, Way::Back)?,
-            calls: calls_among(heap, &parts)?,
             parts,
+            book: Book::new(loads),
+            to_hut,
+            back,
+            calls,
         })
     }
 
