@@ -15,7 +15,7 @@ use Rattle.sheet.specs.declared.faults.SheetFault.{SheetFault}
 use Rattle.sheet.specs.Faults.{and_then}
 use Rattle.sheet.specs.Layouts.{octets_of}
 use Rattle.sheet.specs.Parts.{Meaning, a_load, a_mark, a_call, PartState, mark_in, marks_in}
-use Rattle.sheet.specs.Records.{first_mark, first_call, first_meaning, size_of, record_with, record_of}
+use Rattle.sheet.specs.Records.{first_mark, first_call, first_meaning, record_size, record_with, record_of}
 use Rattle.sheet.specs.Sections.{SectionState, PartsRead, room_for, marks_room, before, records_read, section_reads, sections_read}
 use Rattle.sheet.specs.Sheets.{AreInPlaces}
 
@@ -45,8 +45,8 @@ module _ {T : Type 0} where
   record_cut : (kind : Ghosts T) (section : SectionKind) (place : ℕ) (octets behind : List ℕ) (meaning : Option (Meaning T)) (part : PartState T)
       → record_with kind section place octets meaning ≡ Ok (part, behind) → (part.place ≡ place) × (part.octets ++ behind ≡ octets) × (meaning ≡ Some part.meaning)
   record_cut kind section place octets behind (Some meaning) part is =
-      let cut : part.octets ++ behind ≡ take (size_of kind meaning) octets ++ drop (size_of kind meaning) octets = search rules in
-      (search rules, cut ∙ take-append-drop (size_of kind meaning) octets, search rules)
+      let cut : part.octets ++ behind ≡ take (record_size kind meaning) octets ++ drop (record_size kind meaning) octets = search rules in
+      (search rules, cut ∙ take-append-drop (record_size kind meaning) octets, search rules)
   record_cut kind section place octets behind None part is = search rules
 
   -- what a record means comes of what its section has

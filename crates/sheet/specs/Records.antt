@@ -71,16 +71,16 @@ module _ {T : Type 0} where
   first_meaning kind section.Calls octets = option_map a_call (first_call octets)
 
   -- how many octets a record with a meaning has
-  abbrev pub size_of : Ghosts T → Meaning T → ℕ
-  size_of kind (a_load load) = kind.SIZE
-  size_of kind (a_call (Request start count)) = request_size
-  size_of kind meaning = 1
+  abbrev pub record_size : Ghosts T → Meaning T → ℕ
+  record_size kind (a_load load) = kind.SIZE
+  record_size kind (a_call (Request start count)) = request_size
+  record_size kind meaning = 1
 
   -- the record at the front with this meaning; or, if it has none, the refusal
   abbrev pub record_with : Ghosts T → SectionKind → ℕ → List ℕ → Option (Meaning T) → Front T
   record_with kind section place octets (Some meaning) = Ok (
-    record { place = place; octets = take (size_of kind meaning) octets; meaning = meaning },
-    drop (size_of kind meaning) octets,
+    record { place = place; octets = take (record_size kind meaning) octets; meaning = meaning },
+    drop (record_size kind meaning) octets,
   )
   record_with kind section place octets None = Err (fault_at (refusal_of section) place)
 

@@ -66,9 +66,8 @@ module _ {T : Type 0} where
   records_read kind section room place [] = Ok []
   records_read kind section zero place octets = Err (fault_at (refusal_of section) place)
   records_read kind section (suc room) place octets =
-      and_then (record_of kind section place octets)
-      (λ (part, rest). before (part ∷ [])
-      (records_read kind section room (place + length part.octets) rest))
+      and_then (record_of kind section place octets) (λ (part, rest).
+      before (part ∷ []) (records_read kind section room (place + length part.octets) rest))
 
   -- the records of a section
   abbrev pub section_reads : Ghosts T → SectionState → PartsRead T
@@ -88,6 +87,6 @@ module _ {T : Type 0} where
   sections_read kind (section ∷ sections) =
       and_then (section_reads kind section) (λ parts. before parts (sections_read kind sections))
 
-  -- whether parts were read, without the parts
-  abbrev pub passed : PartsRead T → Result (Unit {0}) SheetFault
-  passed read = and_then read (λ parts. Ok tt)
+  -- whether parts were read, or the refusal
+  abbrev pub outcome_of : PartsRead T → Result (Unit {0}) SheetFault
+  outcome_of read = and_then read (λ parts. Ok tt)

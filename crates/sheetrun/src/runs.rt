@@ -1,4 +1,4 @@
-// Runs on a link over two rains, whose marks decide what is answered.
+//! Runs on a link over two rains, whose marks decide what is answered.
 ghost use Rattle.std.specs.Prelude.{◌≡◌, ◌<◌, List, [], length, take, IfOk, IfErr, vec_items};
 ghost use Rattle.link.specs.Histories.{Reached, Lawful};
 ghost use Rattle.link.specs.Runs.{run_answer, run_count, written, behind};
@@ -11,11 +11,11 @@ use loads::{Book, EmptyLoad, Load};
 use sheet::Sheet;
 use std::alloc::{AllocError, Global};
 
-// A link over a wire to the hut and a store back, each under a rain.
+/// A link over a wire to the hut and a store back, each under a rain.
 pub type RainedLink<'m, T> = Link<T, Rain<'m, Wire<T>>, Rain<'m, Store<EmptyLoad>>>;
 
-// Makes calls in order, and writes each with its answer to the front of the log, as `Link::run`. The marks decide what
-// becomes of each frame, so nothing of it is open.
+/// Makes calls in order, and writes each with its answer to the front of the log, as `Link::run`. The marks decide what
+/// becomes of each frame, so nothing of it is open.
 pub fn run_by_marks<'m, T: Load>(
     link: &mut RainedLink<'m, T>,
     book: &Book<T>,
@@ -56,7 +56,7 @@ fn joined_link<'m, 's, T: Load>(sheet: &'m Sheet<'s, T>) -> RainedLink<'m, T>
     link
 }
 
-// The calls of a sheet, each with its answer. Open: whether there is memory for them, where there are any.
+/// The calls of a sheet, each with its answer. Open: whether there is memory for them, where there are any.
 pub fn sheet_events<'s, T: Load>(
     heap: Global,
     sheet: &Sheet<'s, T>,
