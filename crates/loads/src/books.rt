@@ -37,15 +37,12 @@ impl<T: Load> Book<T> {
     /// At most `count` loads, up to the first record that spells none. Open: whether there is memory
     /// for them, where there are any.
     pub fn read(heap: Global, count: usize, octets: &[u8]) -> Result<Book<T>, Fault>
-        ensures cases {
-            MatchResult result
+        ensures cases { MatchResult result
             (λ book. book ≡ book_reads T.Load count octets.now)
-            (λ fault. (fault ≡ NoMemory) × (0 < length (book_reads T.Load count octets.now)))
-        }
-        ensures back {
-            (loads : List T) → count ≡ length loads → octets.now ≡ flat_map T.spelled loads
-            → IfOk result (λ book. book ≡ loads)
-        }
+            (λ fault. (fault ≡ NoMemory) × (0 < length (book_reads T.Load count octets.now))) }
+        ensures back { (loads : List T)
+            → count ≡ length loads → octets.now ≡ flat_map T.spelled loads
+            → IfOk result (λ book. book ≡ loads) }
     {
         let mut loads = Vec::new(heap);
         let mut rest = octets;
