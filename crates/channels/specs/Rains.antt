@@ -1,5 +1,5 @@
 -- A rain: how it is made, and what it does by mark.
-use Rattle.std.specs.Prelude.{◌≡◌, ℕ, Bool, true, false, cond, List, Ok, Err, Result}
+use Rattle.std.specs.Prelude.{◌≡◌, ℕ, Bool, true, false, List, Ok, Err, Result, Some, None, Option}
 use Rattle.loads.specs.declared.frames.Frame.{Frame}
 use Rattle.channel.specs.declared.polls.Poll.{Poll}
 use Rattle.channel.specs.declared.polls.Poll.TheVariants.{Empty, Still, Arrived, Lost}
@@ -9,7 +9,7 @@ use Rattle.channel.specs.Rules.{held}
 use Rattle.channels.specs.declared.marks.Mark.{Mark}
 use Rattle.channels.specs.declared.marks.Mark.TheVariants.{Pass, Lose, Delay}
 use Rattle.channels.specs.declared.rains.BadMarks.{BadMarks}
-use Rattle.channels.specs.Marks.{good_marks, marks_of, next_mark, later_marks}
+use Rattle.channels.specs.Marks.{marks_read, marks_kept, next_mark, later_marks}
 
 -- a rain as plain values: the channel below, the mark of the frame that waits, the marks of the frames to come
 pub record RainState (C : Type 0) : Type 0 where
@@ -24,12 +24,19 @@ lossy Still = Still
 lossy (Arrived frame) = Lost
 lossy Lost = Lost
 
--- making a rain: a frame that waits below has Pass, and all the marks are ahead; refused, the channel comes back
+-- making a rain, if its marks are such as it takes: a frame that waits below has Pass, and all the marks are ahead;
+-- refused, the channel comes back
+abbrev pub rain_over : {C : Type 0} → C → Option (List Mark) → Result (RainState C) (BadMarks C)
+rain_over below (Some marks) = Ok (record { below = below; mark = Pass; ahead = marks })
+rain_over below None = Err (record { below = below })
+
+-- by octets
 abbrev pub rain_of : {C : Type 0} → C → List ℕ → Result (RainState C) (BadMarks C)
-rain_of below octets =
-    cond (good_marks octets)
-    (Ok (record { below = below; mark = Pass; ahead = marks_of octets }))
-    (Err (record { below = below }))
+rain_of below octets = rain_over below (marks_read octets)
+
+-- by marks
+abbrev pub rain_of_marks : {C : Type 0} → C → List Mark → Result (RainState C) (BadMarks C)
+rain_of_marks below marks = rain_over below (marks_kept marks)
 
 -- by what the channel below is known to do
 module _ {T C : Type 0} (below : Ghosts C T) where

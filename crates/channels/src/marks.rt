@@ -1,25 +1,25 @@
-// The marks by which a rain treats frames, read from octets.
-ghost use Rattle.std.specs.Prelude.{◌≡◌, true, List};
+//! The marks by which a rain treats frames: as values, or as the octets that they are read from.
+ghost use Rattle.std.specs.Prelude.{◌≡◌, List};
 ghost use Rattle.channels.specs.declared.marks.Mark.{Mark};
-ghost use Rattle.channels.specs.Marks.{mark_read, known, good_marks, marks_of, marks_read, next_mark, later_marks};
+ghost use Rattle.channels.specs.Marks.{mark_read, good_marks, marks_read, marks_kept, next_mark, later_marks, marks_left, HasMarks};
 
 use std::marker::Model;
 
-// The most marks that a rain takes.
+/// The most marks that a rain takes.
 pub const MOST_MARKS: usize = 64;
 
-// What becomes of a frame.
+/// What becomes of a frame.
 #[derive(Clone, Copy, Debug, PartialEq, Eq)]
 pub enum Mark {
-    // Mark 0: the answers of the channel below are passed on.
+    /// Mark 0: the answers of the channel below are passed on.
     Pass,
-    // Mark 1: a frame that arrives is lost.
+    /// Mark 1: a frame that arrives is lost.
     Lose,
-    // Mark 2: one poll is answered Still without asking below, and then answers are passed on.
+    /// Mark 2: one poll is answered Still without asking below, and then answers are passed on.
     Delay,
 }
 
-// An octet is above 2.
+/// An octet is no mark: it is above 2.
 #[derive(Clone, Copy, Debug, PartialEq, Eq)]
 pub struct NotAMark;
 
@@ -45,19 +45,26 @@ fn good_marks(octets: &[u8]) -> bool
     octets.len() <= MOST_MARKS && octets.iter().all(|octet| Mark::try_from(*octet).is_ok())
 }
 
+// Where the marks of the frames to come are: octets that are marks, or marks that somebody keeps.
+#[derive(Clone, Copy)]
+pub(crate) enum Source<'m> {
+    Octets(&'m [u8]),
+    Marks(&'m [Mark]),
+}
+
 // The marks of the frames to come.
 #[derive(Drop)]
 pub(crate) struct Marks<'m> {
-    octets: &'m [u8],
+    source: Source<'m>,
 }
 
 // Clauses see them as marks, and not as octets.
 impl<'m> Model for Marks<'m> {
     ghost Value = { List Mark };
 
-    ghost view = { λ marks. marks_of marks.octets.now };
+    ghost view = { λ marks. marks_left marks.source };
 
-    ghost invariant = { λ marks. known marks.octets.now ≡ true };
+    ghost invariant = { λ marks. HasMarks marks.source };
 }
 
 impl<'m> Marks<'m> {
@@ -68,7 +75,21 @@ impl<'m> Marks<'m> {
         if !good_marks(octets) {
             return None;
         }
-        Some(Marks { octets })
+        Some(Marks {
+            source: Source::Octets(octets),
+        })
+    }
+
+    // Marks that are kept, if there are not too many.
+    pub(crate) fn kept(marks: &'m [Mark]) -> Option<Marks<'m>>
+        ensures answer { result ≡ marks_kept marks.now }
+    {
+        if marks.len() > MOST_MARKS {
+            return None;
+        }
+        Some(Marks {
+            source: Source::Marks(marks),
+        })
     }
 
     // Takes the next mark. After the last they are all Pass.
@@ -76,9 +97,12 @@ impl<'m> Marks<'m> {
         ensures answer { result ≡ next_mark self.old }
         ensures after { self.new ≡ later_marks self.old }
     {
-        let Some(octet) = self.octets.split_off_first() else {
-            return Mark::Pass;
-        };
-        Mark::try_from(*octet).unwrap()
+        match &mut self.source {
+            Source::Octets(octets) => match octets.split_off_first() {
+                Some(octet) => Mark::try_from(*octet).unwrap(),
+                None => Mark::Pass,
+            },
+            Source::Marks(marks) => marks.split_off_first().copied().unwrap_or(Mark::Pass),
+        }
     }
 }

@@ -1,15 +1,15 @@
-// The rain: a layer over any channel that loses and delays frames by given marks.
+//! The rain: a layer over any channel that loses and delays frames by given marks.
 ghost use Rattle.std.specs.Prelude.{◌≡◌};
 ghost use Rattle.std.proofs.Common.{rules};
 ghost use Rattle.channels.specs.Marks.{bad_marks_number};
-ghost use Rattle.channels.specs.Rains.{RainState, rain_of, lossy, rains};
+ghost use Rattle.channels.specs.Rains.{RainState, rain_of, rain_of_marks, rain_over, lossy, rains};
 
 use crate::marks::{Mark, Marks};
 use channel::{Channel, Full, Poll};
 use loads::{Frame, Refusal};
 use std::marker::Model;
 
-// A channel under marks, one for each frame that it accepts.
+/// A channel under marks, one for each frame that it accepts.
 #[derive(Drop)]
 pub struct Rain<'m, C> {
     below: C,
@@ -25,7 +25,7 @@ impl<'m, C> Model for Rain<'m, C> {
     ghost view = { λ rain. record { below = rain.below; mark = rain.mark; ahead = rain.ahead } };
 }
 
-// A mark is above 2, or there is a 65th. The channel that was to be below comes back.
+/// A mark is above 2, or there is a 65th. The channel that was to be below comes back.
 #[derive(Drop)]
 pub struct BadMarks<C> {
     pub below: C,
@@ -42,11 +42,25 @@ impl<C> Refusal for BadMarks<C> {
 }
 
 impl<'m, C> Rain<'m, C> {
-    // A rain over a channel, with up to 64 marks of at most 2.
+    /// A rain over a channel, with the marks that octets are: up to 64, each at most 2. Otherwise it is refused.
     pub fn new(below: C, marks: &'m [u8]) -> Result<Rain<'m, C>, BadMarks<C>>
         ensures answer { result ≡ rain_of below marks.now }
     {
-        let Some(ahead) = Marks::read(marks) else {
+        Rain::over(below, Marks::read(marks))
+    }
+
+    /// A rain over a channel, with up to 64 marks. With more it is refused.
+    pub fn of_marks(below: C, marks: &'m [Mark]) -> Result<Rain<'m, C>, BadMarks<C>>
+        ensures answer { result ≡ rain_of_marks below marks.now }
+    {
+        Rain::over(below, Marks::kept(marks))
+    }
+
+    // A rain whose first accepted frame takes the first of the marks, if there are any that it takes.
+    fn over(below: C, ahead: Option<Marks<'m>>) -> Result<Rain<'m, C>, BadMarks<C>>
+        ensures answer { result ≡ rain_over below ahead.entry }
+    {
+        let Some(ahead) = ahead else {
             return Err(BadMarks { below });
         };
         Ok(Rain {
@@ -56,7 +70,7 @@ impl<'m, C> Rain<'m, C> {
         })
     }
 
-    // The channel below, with what waits in it.
+    /// The channel below, with what waits in it.
     pub fn into_below(self) -> C
         ensures answer { result ≡ self.entry.below }
     {

@@ -1,5 +1,5 @@
-//! The book: loads of one kind, in order, read from octets.
-ghost use Rattle.std.specs.Prelude.{◌≡◌, ◌<◌, List, length, IfOk, MatchResult};
+//! The book: loads of one kind, in order.
+ghost use Rattle.std.specs.Prelude.{◌≡◌, ◌<◌, List, length, IfOk, MatchResult, vec_items};
 ghost use Rattle.std.specs.List.{slice_get, flat_map};
 ghost use Rattle.loads.specs.Books.{book_reads};
 ghost use Rattle.loads.specs.declared.faults.Fault.TheVariants.{NoMemory};
@@ -22,6 +22,15 @@ impl<T> Model for Book<T> {
     ghost Value = { List T };
 
     ghost view = { λ book. vec_items book.loads };
+}
+
+impl<T> Book<T> {
+    /// The book of these loads.
+    pub fn new(loads: Vec<T>) -> Book<T>
+        ensures answer { result ≡ vec_items loads }
+    {
+        Book { loads }
+    }
 }
 
 impl<T: Load> Book<T> {

@@ -1,7 +1,3 @@
-pub mod Bounds
-pub mod Chains
-pub mod Contents
-pub mod Cuts
 pub mod InTurn
-pub mod Passes
-pub mod Wholes
+pub mod SectionLaws
+pub mod LayoutLaws

@@ -1,5 +1,5 @@
 -- The refusals of a sheet, by number, and their printed line.
-use Rattle.std.specs.Prelude.{◌≡◌, ℕ, List, ◌++◌, Err, Result, codes, decimal}
+use Rattle.std.specs.Prelude.{◌≡◌, ℕ, List, ◌++◌, Ok, Err, Result, codes, decimal}
 use Rattle.sheet.specs.declared.faults.SheetRefusal.{SheetRefusal}
 use Rattle.sheet.specs.declared.faults.SheetRefusal.TheVariants.{WrongSize, BadSetting, BadDistances, NoLoad, BadMark, BadCall}
 use Rattle.sheet.specs.declared.faults.SheetFault.{SheetFault}
@@ -19,9 +19,16 @@ number_of BadCall = 22
 abbrev pub fault_at : SheetRefusal → ℕ → SheetFault
 fault_at refusal place = record { refusal = refusal; place = place }
 
+-- what follows an answer; a refusal stands
+abbrev pub and_then : {X Y : Type 0}
+    → Result X SheetFault → (X → Result Y SheetFault) → Result Y SheetFault
+and_then (Ok x) next = next x
+and_then (Err fault) next = Err fault
+
 -- the printed line of a sheet that is turned down
 abbrev pub fault_text : SheetFault → List ℕ
-fault_text fault = codes "sheet " ++ (decimal (number_of fault.refusal) ++ (codes " at " ++ decimal fault.place))
+fault_text fault =
+    codes "sheet " ++ (decimal (number_of fault.refusal) ++ (codes " at " ++ decimal fault.place))
 
 -- why there is no sheet, in words
 abbrev pub error_text : ReadError → List ℕ

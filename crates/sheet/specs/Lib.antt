@@ -1,7 +1,7 @@
-pub mod AnySheets
 pub mod Faults
-pub mod Layouts
 pub mod Parts
 pub mod Records
 pub mod Sections
+pub mod Layouts
 pub mod Sheets
+pub mod AnySheets

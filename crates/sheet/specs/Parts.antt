@@ -23,30 +23,28 @@ pub record PartState (T : Type 0) : Type 0 where
 module _ {T : Type 0} where
   -- a part as its place, the octets that it borrows, and their meaning
   abbrev pub part_state : Part T → PartState T
-  part_state (part.BookRecord place octets load) = record { place = place; octets = octets.now; meaning = a_load load }
-  part_state (part.Mark place octets way mark) = record { place = place; octets = octets.now; meaning = a_mark way mark }
-  part_state (part.Call place octets call) = record { place = place; octets = octets.now; meaning = a_call call }
+  part_state (part.BookRecord place octets load) =
+      record { place = place; octets = octets.now; meaning = a_load load }
+  part_state (part.Mark place octets way mark) =
+      record { place = place; octets = octets.now; meaning = a_mark way mark }
+  part_state (part.Call place octets call) =
+      record { place = place; octets = octets.now; meaning = a_call call }
 
   -- the load that a meaning has, if it is one of the book
   abbrev pub load_in : Meaning T → List T
   load_in (a_load load) = load ∷ []
-  load_in (a_mark way mark) = []
-  load_in (a_call call) = []
+  load_in meaning = []
 
   -- the mark that it has for frames of one way
   abbrev pub mark_in : Way → Meaning T → List Mark
-  mark_in way (a_load load) = []
   mark_in ToHut (a_mark ToHut mark) = mark ∷ []
-  mark_in ToHut (a_mark Back mark) = []
-  mark_in Back (a_mark ToHut mark) = []
   mark_in Back (a_mark Back mark) = mark ∷ []
-  mark_in way (a_call call) = []
+  mark_in way meaning = []
 
   -- the call that it has
   abbrev pub call_in : Meaning T → List Call
-  call_in (a_load load) = []
-  call_in (a_mark way mark) = []
   call_in (a_call call) = call ∷ []
+  call_in meaning = []
 
   -- the loads of parts, in order
   abbrev pub loads_in : List (PartState T) → List T

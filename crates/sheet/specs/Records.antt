@@ -1,82 +1,90 @@
 -- The record at the front of a list's octets, with the octets behind it; or why the sheet is turned down there.
-use Rattle.std.specs.Prelude.{ℕ, cond, ◌==◌, nat_le, List, [], ◌∷◌, length, take, drop, Ok, Err, Result, Some, None, Option}
-use Rattle.loads.specs.declared.faults.Fault.{Fault}
+use Rattle.std.specs.Prelude.{ℕ, if◌then◌else◌, ◌==◌, nat_le, List, [], ◌∷◌, length, take, drop, Ok, Err, Result, Some, None, Option}
+use Rattle.std.specs.List.{find}
+use Rattle.std.specs.Option.{option_map}
+use Rattle.std.specs.Result.{result_ok}
 use Rattle.loads.specs.declared.kinds.Load.{Ghosts}
 use Rattle.loads.specs.Octets.{field}
 use Rattle.channels.specs.declared.marks.Mark.{Mark}
-use Rattle.channels.specs.declared.marks.NotAMark.{NotAMark}
 use Rattle.channels.specs.Marks.{mark_read}
 use Rattle.link.specs.declared.calls.Call.{Call}
 use Rattle.link.specs.declared.calls.Call.TheVariants.{Request, Send, Carry, Tell, Reply, Return, Retry, Abandon, Confirm, Part, Break, Meet}
 use Rattle.link.specs.Words.{letter}
 use Rattle.sheet.specs.declared.faults.SheetFault.{SheetFault}
+use Rattle.sheet.specs.declared.faults.SheetRefusal.{SheetRefusal}
 use Rattle.sheet.specs.declared.faults.SheetRefusal.TheVariants.{NoLoad, BadMark, BadCall}
-use Rattle.sheet.specs.declared.parts.Way.{Way}
+use Rattle.sheet.specs.declared.sections.SectionKind.{SectionKind}
+use Rattle.sheet.specs.declared.sections.SectionKind.TheVariants as section
 use Rattle.sheet.specs.Faults.{fault_at}
 use Rattle.sheet.specs.Parts.{Meaning, a_load, a_mark, a_call, PartState}
+
+-- what a record that cannot be read, or one too many, is turned down for
+abbrev pub refusal_of : SectionKind → SheetRefusal
+refusal_of section.Book = NoLoad
+refusal_of (section.Marks way) = BadMark
+refusal_of section.Calls = BadCall
+
+-- the mark at the front of octets
+abbrev pub first_mark : List ℕ → Option Mark
+first_mark [] = None
+first_mark (octet ∷ octets) = result_ok (mark_read octet)
+
+-- the calls that have no operands
+abbrev pub plain_calls : List Call
+plain_calls =
+    Send ∷ Carry ∷ Tell ∷ Reply ∷ Return ∷ Retry ∷ Abandon ∷ Confirm ∷ Part ∷ Break ∷ Meet ∷ []
+
+-- the one of them that has this letter
+abbrev pub plain_call : ℕ → Option Call
+plain_call octet = find (λ call. letter call == octet) plain_calls
 
 -- the letter of a request, whatever its operands
 abbrev pub request_letter : ℕ
 request_letter = letter (Request 0 0)
 
--- the call of a letter that has no operands
-abbrev pub plain_call : ℕ → Option Call
-plain_call octet =
-    cond (octet == letter Send) (Some Send)
-    (cond (octet == letter Carry) (Some Carry)
-    (cond (octet == letter Tell) (Some Tell)
-    (cond (octet == letter Reply) (Some Reply)
-    (cond (octet == letter Return) (Some Return)
-    (cond (octet == letter Retry) (Some Retry)
-    (cond (octet == letter Abandon) (Some Abandon)
-    (cond (octet == letter Confirm) (Some Confirm)
-    (cond (octet == letter Part) (Some Part)
-    (cond (octet == letter Break) (Some Break)
-    (cond (octet == letter Meet) (Some Meet)
-    None))))))))))
+-- the octets of a request: its letter and two operands of two octets
+abbrev pub request_size : ℕ
+request_size = 5
+
+-- the request at the front
+abbrev pub first_request : List ℕ → Option Call
+first_request octets =
+    if nat_le request_size (length octets) then Some (Request (field 1 2 octets) (field 3 2 octets))
+    else None
+
+-- the call at the front
+abbrev pub first_call : List ℕ → Option Call
+first_call [] = None
+first_call (octet ∷ octets) =
+    if octet == request_letter then first_request (octet ∷ octets) else plain_call octet
 
 -- a record and the octets behind it, or a refusal
 abbrev pub Front : Type 0 → Type 0
 Front T = Result (PartState T × List ℕ) SheetFault
 
 module _ {T : Type 0} where
-  -- a record of these octets with this meaning
-  abbrev pub front_of : ℕ → List ℕ → Meaning T → List ℕ → Front T
-  front_of place octets meaning rest = Ok (record { place = place; octets = octets; meaning = meaning }, rest)
+  -- what the record at the front of a section means, if it can be read
+  abbrev pub first_meaning : Ghosts T → SectionKind → List ℕ → Option (Meaning T)
+  first_meaning kind section.Book octets =
+      option_map a_load (result_ok (kind.reads (take kind.SIZE octets)))
+  first_meaning kind (section.Marks way) octets = option_map (a_mark way) (first_mark octets)
+  first_meaning kind section.Calls octets = option_map a_call (first_call octets)
 
-  -- a load, from as many octets as the kind has
-  abbrev pub load_front : ℕ → List ℕ → Result T Fault → List ℕ → Front T
-  load_front place octets (Ok load) rest = front_of place octets (a_load load) rest
-  load_front place octets (Err fault) rest = Err (fault_at NoLoad place)
+  -- how many octets a record with a meaning has
+  abbrev pub record_size : Ghosts T → Meaning T → ℕ
+  record_size kind (a_load load) = kind.SIZE
+  record_size kind (a_call (Request start count)) = request_size
+  record_size kind meaning = 1
 
-  -- the record of a load, at the front of the book
-  abbrev pub book_record : Ghosts T → ℕ → List ℕ → Front T
-  book_record kind place octets = load_front place (take kind.SIZE octets) (kind.reads (take kind.SIZE octets)) (drop kind.SIZE octets)
+  -- the record at the front with this meaning; or, if it has none, the refusal
+  abbrev pub record_with : Ghosts T → SectionKind → ℕ → List ℕ → Option (Meaning T) → Front T
+  record_with kind section place octets (Some meaning) = Ok (
+    record { place = place; octets = take (record_size kind meaning) octets; meaning = meaning },
+    drop (record_size kind meaning) octets,
+  )
+  record_with kind section place octets None = Err (fault_at (refusal_of section) place)
 
-  -- a mark, from one octet
-  abbrev pub mark_front : Way → ℕ → ℕ → Result Mark NotAMark → List ℕ → Front T
-  mark_front way place octet (Ok mark) rest = front_of place (octet ∷ []) (a_mark way mark) rest
-  mark_front way place octet (Err above) rest = Err (fault_at BadMark place)
-
-  -- the record of a mark, at the front of the marks of a way
-  abbrev pub mark_record : Way → ℕ → List ℕ → Front T
-  mark_record way place [] = Err (fault_at BadMark place)
-  mark_record way place (octet ∷ octets) = mark_front way place octet (mark_read octet) octets
-
-  -- a request, from its letter and four octets of operands
-  abbrev pub request_record : ℕ → List ℕ → Front T
-  request_record place octets =
-      cond (nat_le 5 (length octets))
-      (front_of place (take 5 octets) (a_call (Request (field 1 2 octets) (field 3 2 octets))) (drop 5 octets))
-      (Err (fault_at BadCall place))
-
-  -- another call, from its letter
-  abbrev pub letter_front : ℕ → ℕ → Option Call → List ℕ → Front T
-  letter_front place octet (Some call) rest = front_of place (octet ∷ []) (a_call call) rest
-  letter_front place octet None rest = Err (fault_at BadCall place)
-
-  -- the record of a call, at the front of the calls
-  abbrev pub call_record : ℕ → List ℕ → Front T
-  call_record place [] = Err (fault_at BadCall place)
-  call_record place (octet ∷ octets) =
-      cond (octet == request_letter) (request_record place (octet ∷ octets)) (letter_front place octet (plain_call octet) octets)
+  -- the record at the front of a section
+  abbrev pub record_of : Ghosts T → SectionKind → ℕ → List ℕ → Front T
+  record_of kind section place octets =
+      record_with kind section place octets (first_meaning kind section octets)

@@ -1,58 +1,92 @@
 -- The sections of a sheet, which are its four lists, each read record by record.
-use Rattle.std.specs.Prelude.{ℕ, zero, suc, ◌+◌, List, [], ◌∷◌, ◌++◌, length, Ok, Err, Result}
+use Rattle.std.specs.Prelude.{ℕ, zero, suc, ◌+◌, List, [], ◌∷◌, ◌++◌, length, sum_by, Ok, Err, Result, Some, None, Option}
 use Rattle.loads.specs.declared.kinds.Load.{Ghosts}
+use Rattle.channels.specs.Marks.{most_marks}
 use Rattle.sheet.specs.declared.faults.SheetFault.{SheetFault}
-use Rattle.sheet.specs.declared.faults.SheetRefusal.{SheetRefusal}
-use Rattle.sheet.specs.declared.faults.SheetRefusal.TheVariants.{NoLoad, BadMark, BadCall}
+use Rattle.sheet.specs.declared.parts.Part.{Part}
+use Rattle.sheet.specs.declared.parts.Way.{Way}
+use Rattle.sheet.specs.declared.parts.Way.TheVariants.{ToHut, Back}
 use Rattle.sheet.specs.declared.sections.Section.{Section}
-use Rattle.sheet.specs.declared.sections.Section.TheVariants as section
-use Rattle.sheet.specs.Faults.{fault_at}
-use Rattle.sheet.specs.Parts.{PartState}
-use Rattle.sheet.specs.Records.{Front, book_record, mark_record, call_record}
+use Rattle.sheet.specs.declared.sections.SectionKind.{SectionKind}
+use Rattle.sheet.specs.declared.sections.SectionKind.TheVariants as section
+use Rattle.sheet.specs.Faults.{fault_at, and_then}
+use Rattle.sheet.specs.Parts.{PartState, part_state}
+use Rattle.sheet.specs.Records.{refusal_of, record_of}
+
+-- what is left of a section: its kind, how many records it may still have, the place of the next one, and the octets
+pub record SectionState : Type 0 where
+  pub kind : SectionKind
+  pub room : ℕ
+  pub place : ℕ
+  pub octets : List ℕ
+
+-- a section as plain values
+abbrev pub section_state : Section → SectionState
+section_state left =
+    record { kind = left.kind; room = left.room; place = left.place; octets = left.octets.now }
 
 -- the most calls of a sheet
 abbrev pub most_calls : ℕ
 most_calls = 1024
 
--- the most records of a section: each load of a sheet's book has octets, so there are no more loads than octets; marks are as
--- many as a rain takes
-abbrev pub room_of : Section → List ℕ → ℕ
+-- the most records of a section: each load of a sheet's book has octets, so there are no more loads than octets; marks
+-- are as many as a rain takes
+abbrev pub room_of : SectionKind → List ℕ → ℕ
 room_of section.Book octets = length octets
-room_of (section.Marks way) octets = 64
+room_of (section.Marks way) octets = most_marks
 room_of section.Calls octets = most_calls
 
--- what a record that cannot be read, or one too many, is turned down for
-abbrev pub refusal_of : Section → SheetRefusal
-refusal_of section.Book = NoLoad
-refusal_of (section.Marks way) = BadMark
-refusal_of section.Calls = BadCall
+-- a whole section
+abbrev pub section_of : SectionKind → ℕ → List ℕ → SectionState
+section_of kind place octets =
+    record { kind = kind; room = room_of kind octets; place = place; octets = octets }
+
+-- how many marks for frames of one way a section of a kind may have, if it has room for so many records
+abbrev pub room_for : Way → SectionKind → ℕ → ℕ
+room_for ToHut (section.Marks ToHut) room = room
+room_for Back (section.Marks Back) room = room
+room_for way kind room = 0
+
+-- how many sections may have
+abbrev pub marks_room : Way → List SectionState → ℕ
+marks_room way sections = sum_by (λ section. room_for way section.kind section.room) sections
+
+-- parts that were read, or a refusal
+abbrev pub PartsRead : Type 0 → Type 0
+PartsRead T = Result (List (PartState T)) SheetFault
 
 module _ {T : Type 0} where
-  -- the record at the front
-  abbrev pub record_of : Ghosts T → Section → ℕ → List ℕ → Front T
-  record_of kind section.Book place octets = book_record kind place octets
-  record_of kind (section.Marks way) place octets = mark_record way place octets
-  record_of kind section.Calls place octets = call_record place octets
+  -- parts before others
+  abbrev pub before : List (PartState T) → PartsRead T → PartsRead T
+  before parts others = and_then others (λ others. Ok (parts ++ others))
 
-  -- records before others; the first refusal stands
-  abbrev pub before : List (PartState T) → Result (List (PartState T)) SheetFault → Result (List (PartState T)) SheetFault
-  before parts (Ok others) = Ok (parts ++ others)
-  before parts (Err fault) = Err fault
-
-  -- what follows the record at the front
-  abbrev pub then_records : Front T → (PartState T → List ℕ → Result (List (PartState T)) SheetFault) → Result (List (PartState T)) SheetFault
-  then_records (Ok (part, rest)) others = before (part ∷ []) (others part rest)
-  then_records (Err fault) others = Err fault
-
-  -- at most so many records, up to the end of the octets, each where the one before it ends; one too many is
-  -- turned down where it starts
-  abbrev pub records_read : Ghosts T → Section → ℕ → ℕ → List ℕ → Result (List (PartState T)) SheetFault
+  -- at most so many records, up to the end of the octets, each where the one before it ends; one too many is turned
+  -- down where it starts
+  abbrev pub records_read : Ghosts T → SectionKind → ℕ → ℕ → List ℕ → PartsRead T
   records_read kind section room place [] = Ok []
-  records_read kind section zero place (octet ∷ octets) = Err (fault_at (refusal_of section) place)
-  records_read kind section (suc room) place (octet ∷ octets) =
-      then_records (record_of kind section place (octet ∷ octets))
-      (λ part rest. records_read kind section room (place + length part.octets) rest)
+  records_read kind section zero place octets = Err (fault_at (refusal_of section) place)
+  records_read kind section (suc room) place octets =
+      and_then (record_of kind section place octets) (λ (part, rest).
+      before (part ∷ []) (records_read kind section room (place + length part.octets) rest))
 
-  -- a whole section
-  abbrev pub section_reads : Ghosts T → Section → ℕ → List ℕ → Result (List (PartState T)) SheetFault
-  section_reads kind section place octets = records_read kind section (room_of section octets) place octets
+  -- the records of a section
+  abbrev pub section_reads : Ghosts T → SectionState → PartsRead T
+  section_reads kind section =
+      records_read kind section.kind section.room section.place section.octets
+
+  -- what a section reads as, by its next record and what it leaves
+  abbrev pub after_next :
+      Ghosts T → Result (Option (Part T)) SheetFault → SectionState → PartsRead T
+  after_next kind (Ok (Some part)) left = before (part_state part ∷ []) (section_reads kind left)
+  after_next kind (Ok None) left = Ok []
+  after_next kind (Err fault) left = Err fault
+
+  -- the parts of sections, one behind the other; the first refusal stands
+  abbrev pub sections_read : Ghosts T → List SectionState → PartsRead T
+  sections_read kind [] = Ok []
+  sections_read kind (section ∷ sections) =
+      and_then (section_reads kind section) (λ parts. before parts (sections_read kind sections))
+
+  -- whether parts were read, or the refusal
+  abbrev pub outcome_of : PartsRead T → Result (Unit {0}) SheetFault
+  outcome_of read = and_then read (λ parts. Ok tt)

@@ -1,7 +1,7 @@
-// A sheet of whichever kind of load its trailer names.
+//! A sheet of whichever kind of load its trailer names.
 ghost use Rattle.std.specs.Prelude.{◌≡◌, Ok, MatchResult, IfOk, IfErr};
 ghost use Rattle.std.specs.Result.{IsOk};
-ghost use Rattle.sheet.specs.AnySheets.{sheet_reads, OctetsBefore, Covered};
+ghost use Rattle.sheet.specs.AnySheets.{sheet_reads, HasOctetsBefore, IsCovered};
 ghost use Rattle.sheet.specs.declared.faults.ReadError.TheVariants.{NoMemory};
 ghost use Rattle.sheet.specs.Faults.{Fails};
 ghost use Rattle.sheet.specs.Layouts.{layout_reads};
@@ -12,7 +12,7 @@ use crate::sheets::Sheet;
 use loads::{Piece, Reading};
 use std::alloc::Global;
 
-// A sheet, by the kind of its loads.
+/// A sheet, by the kind of its loads.
 #[derive(Drop)]
 pub enum AnySheet<'s> {
     Readings(Sheet<'s, Reading>),
@@ -20,19 +20,21 @@ pub enum AnySheet<'s> {
 }
 
 impl<'s> AnySheet<'s> {
-    // The sheet that octets are, or why they are none. Open: whether there is memory for it, where
-    // they are a sheet and octets stand before the trailer.
-    #[tactic(auto, using(crate::proofs::Passes::readings_pass, crate::proofs::Passes::pieces_pass))]
+    /// The sheet that octets are, or why they are none. Open: whether there is memory for it, where
+    /// they are a sheet and octets stand before the trailer.
     pub fn read(heap: Global, octets: &'s [u8]) -> Result<AnySheet<'s>, ReadError>
-        ensures cases { MatchResult result (λ sheet. sheet_reads octets.now ≡ Ok sheet) (λ error. Fails (sheet_reads octets.now) error) }
-        ensures memory { IfErr result (λ error. error ≡ NoMemory → OctetsBefore (layout_reads octets.now)) }
+        ensures cases { MatchResult result
+            (λ sheet. sheet_reads octets.now ≡ Ok sheet)
+            (λ error. Fails (sheet_reads octets.now) error) }
+        ensures memory { IfErr result
+            (λ error. error ≡ NoMemory → HasOctetsBefore (layout_reads octets.now)) }
         ensures good { IfErr result (λ error. error ≡ NoMemory → IsOk (sheet_reads octets.now)) }
-        ensures law { IfOk result (λ sheet. Covered sheet octets.now) }
+        ensures law { IfOk result (λ sheet. IsCovered sheet octets.now) }
     {
         let layout = Layout::read(octets)?;
         match layout.kind {
-            LoadKind::Reading => Ok(AnySheet::Readings(Sheet::read(heap, &layout, octets)?)),
-            LoadKind::Piece => Ok(AnySheet::Pieces(Sheet::read(heap, &layout, octets)?)),
+            LoadKind::Reading => Ok(AnySheet::Readings(Sheet::read(heap, &layout)?)),
+            LoadKind::Piece => Ok(AnySheet::Pieces(Sheet::read(heap, &layout)?)),
         }
     }
 }

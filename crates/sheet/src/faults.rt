@@ -1,4 +1,4 @@
-// Why a sheet is turned down, by fixed numbers, and where.
+//! Why a sheet is turned down, by fixed numbers, and where.
 ghost use Rattle.std.specs.Prelude.{◌≡◌, Some, IfOk, string_bytes};
 ghost use Rattle.std.proofs.Common.{rules};
 ghost use Rattle.sheet.specs.Faults.{number_of, fault_text, error_text};
@@ -9,20 +9,20 @@ use std::alloc::{AllocError, AllocFailed, Global};
 use std::error::Error;
 use std::fmt;
 
-// Why a sheet is turned down.
+/// Why a sheet is turned down.
 #[derive(Clone, Copy, Debug, PartialEq, Eq)]
 pub enum SheetRefusal {
-    // It has fewer octets than a trailer, or more than a sheet may have.
+    /// It has fewer octets than a trailer, or more than a sheet may have.
     WrongSize = 17,
-    // The trailer names no kind of load that a sheet may have, or more repeats than a link joins with.
+    /// The trailer names no kind of load that a sheet may have, or more repeats than a link joins with.
     BadSetting = 18,
-    // The trailer's distances do not lead to a book at the first octet, with K's marks, L's marks and calls behind it.
+    /// The trailer's distances do not lead to a book at the first octet, with K's marks, L's marks and calls behind it.
     BadDistances = 19,
-    // A record of the book spells no load.
+    /// A record of the book spells no load.
     NoLoad = 20,
-    // A mark is above 2, or there is one more in its list than a rain takes.
+    /// A mark is above 2, or there is one more in its list than a rain takes.
     BadMark = 21,
-    // A letter is of no call, octets of a request are missing, or there is one call more than a sheet may have.
+    /// A letter is of no call, octets of a request are missing, or there is one call more than a sheet may have.
     BadCall = 22,
 }
 
@@ -36,10 +36,12 @@ impl Refusal for SheetRefusal {
     }
 }
 
-// What a sheet is turned down for, and at which octet, counted from 0.
+/// What a sheet is turned down for, and at which octet, counted from 0.
 #[derive(Clone, Copy, Debug, PartialEq, Eq)]
 pub struct SheetFault {
+    /// What for.
     pub refusal: SheetRefusal,
+    /// The octet's place, counted from 0.
     pub place: usize,
 }
 
@@ -56,10 +58,12 @@ impl fmt::Display for SheetFault {
 
 impl Error for SheetFault {}
 
-// Why there is no sheet: it is turned down, or there is no memory for its parts.
+/// Why there is no sheet: it is turned down, or there is no memory for its parts.
 #[derive(Clone, Copy, Debug, PartialEq, Eq)]
 pub enum ReadError {
+    /// It is turned down.
     Refused(SheetFault),
+    /// Memory is wanting, which says nothing of the sheet.
     NoMemory,
 }
 
@@ -102,7 +106,7 @@ impl<T: Drop> From<AllocFailed<T>> for ReadError {
     }
 }
 
-// The printed line of a sheet that is turned down, without its end. Open: whether there is memory for it.
+/// The printed line of a sheet that is turned down, without its end. Open: whether there is memory for it.
 pub fn fault_line(heap: Global, fault: SheetFault) -> Result<String, AllocError>
     ensures made { IfOk result (λ text. string_bytes text ≡ fault_text fault) }
 {

@@ -1,16 +1,19 @@
-// The trailer of a sheet: where its lists are, which kind of load it has, and how many repeats.
-ghost use Rattle.std.specs.Prelude.{◌≡◌, ◌+◌, ◌*◌, ◌<◌, ◌≤◌, length, take, Ok, slice_range};
-ghost use Rattle.loads.specs.Octets.{field};
-ghost use Rattle.sheet.specs.Layouts.{layout_reads, load_kind, distance, distances_fit};
+//! The trailer of a sheet: which kind of load it has, how many repeats, and its four lists.
+ghost use Rattle.std.specs.Prelude.{◌≡◌, ◌<◌, length, map, true};
+ghost use Rattle.sheet.specs.Layouts.{load_kind, distance, distances_fit, sections_of, layout_reads};
+ghost use Rattle.sheet.specs.Sections.{section_state};
 
 use crate::faults::{SheetFault, SheetRefusal};
+use crate::parts::Way;
+use crate::sections::{Section, SectionKind};
 use link::MOST_REPEATS;
 use loads::{Load, Piece, Reading};
+use std::marker::Model;
 
 // How many octets a trailer has: four distances of four octets, a kind and the repeats.
 const TRAILER_SIZE: usize = 18;
 
-// The most octets of a sheet.
+/// The most octets of a sheet.
 pub const MOST_OCTETS: usize = 16_384;
 
 // Which kind of load a sheet has.
@@ -20,15 +23,34 @@ pub(crate) enum LoadKind {
     Piece,
 }
 
-// What a trailer says: the settings, and where K's marks, L's marks, the calls and the trailer start. The book starts at 0.
-#[derive(Clone, Copy)]
-pub(crate) struct Layout {
+// What a trailer says: the settings, and the four lists before it.
+#[derive(Drop)]
+pub(crate) struct Layout<'s> {
     pub(crate) kind: LoadKind,
     pub(crate) repeats: u8,
-    pub(crate) to_hut: usize,
-    pub(crate) back: usize,
-    pub(crate) calls: usize,
-    pub(crate) trailer: usize,
+    pub(crate) sections: [Section<'s>; 4],
+}
+
+// Clauses see its sections as plain values. It has no more repeats than a link joins with, and room for no more marks
+// of one way than a rain takes.
+impl<'s> Model for Layout<'s> {
+    ghost use Rattle.std.specs.Prelude.{◌≤◌, map};
+    ghost use Rattle.channels.specs.Marks.{most_marks};
+    ghost use Rattle.link.specs.Timers.{most_repeats};
+    ghost use Rattle.sheet.specs.declared.parts.Way.{Way as AnyWay};
+    ghost use Rattle.sheet.specs.Layouts.{LayoutState};
+    ghost use Rattle.sheet.specs.Sections.{section_state, marks_room};
+
+    ghost Value = { LayoutState };
+
+    ghost view = { λ layout. record {
+      kind = layout.kind;
+      repeats = layout.repeats;
+      sections = map section_state layout.sections;
+    } };
+
+    ghost invariant = { λ layout. (layout.repeats ≤ most_repeats)
+        × ((way : AnyWay) → marks_room way (map section_state layout.sections) ≤ most_marks) };
 }
 
 // The kind of load that an octet names, if a sheet may have it.
@@ -61,36 +83,25 @@ fn distances_fit(place: usize, trailer: &[u8; TRAILER_SIZE]) -> bool
         && distance(trailer, 3) <= distance(trailer, 2)
 }
 
-// The octets of the four sections of a sheet.
-#[derive(Drop)]
-pub(crate) struct Sections<'s> {
-    pub(crate) book: &'s [u8],
-    pub(crate) to_hut: &'s [u8],
-    pub(crate) back: &'s [u8],
-    pub(crate) calls: &'s [u8],
+// The four lists before a trailer.
+fn sections_of<'s>(lists: &'s [u8], trailer: &[u8; TRAILER_SIZE]) -> [Section<'s>; 4]
+    requires { distances_fit (length lists.now) trailer.now ≡ true }
+    ensures answer { map section_state result ≡ sections_of lists.now trailer.now }
+{
+    let to_hut = lists.len() - distance(trailer, 1);
+    let back = lists.len() - distance(trailer, 2);
+    let calls = lists.len() - distance(trailer, 3);
+    [
+        Section::new(SectionKind::Book, 0, &lists[..to_hut]),
+        Section::new(SectionKind::Marks(Way::ToHut), to_hut, &lists[to_hut..back]),
+        Section::new(SectionKind::Marks(Way::Back), back, &lists[back..calls]),
+        Section::new(SectionKind::Calls, calls, &lists[calls..]),
+    ]
 }
 
-impl Layout {
-    // The sections of the sheet that the layout was read from.
-    #[tactic(auto, using(crate::proofs::Bounds::layout_bounds))]
-    pub(crate) fn sections<'s>(&self, octets: &'s [u8]) -> Sections<'s>
-        requires { layout_reads octets.now ≡ Ok self.now }
-        ensures book { result.book.now ≡ take self.now.to_hut octets.now }
-        ensures to_hut { result.to_hut.now ≡ slice_range octets.now self.now.to_hut self.now.back }
-        ensures back { result.back.now ≡ slice_range octets.now self.now.back self.now.calls }
-        ensures calls { result.calls.now ≡ slice_range octets.now self.now.calls self.now.trailer }
-        ensures within { (length result.book.now ≤ self.now.trailer) × (length result.to_hut.now ≤ self.now.trailer) × (length result.back.now ≤ self.now.trailer) × (length result.calls.now ≤ self.now.trailer) }
-    {
-        Sections {
-            book: &octets[..self.to_hut],
-            to_hut: &octets[self.to_hut..self.back],
-            back: &octets[self.back..self.calls],
-            calls: &octets[self.calls..self.trailer],
-        }
-    }
-
+impl<'s> Layout<'s> {
     // What the trailer of a sheet says, or why the sheet is turned down for it.
-    pub(crate) fn read(octets: &[u8]) -> Result<Layout, SheetFault>
+    pub(crate) fn read(octets: &'s [u8]) -> Result<Layout<'s>, SheetFault>
         ensures answer { result ≡ layout_reads octets.now }
     {
         let size = octets.len();
@@ -115,10 +126,7 @@ impl Layout {
         Ok(Layout {
             kind,
             repeats: *repeats,
-            to_hut: place - distance(trailer, 1),
-            back: place - distance(trailer, 2),
-            calls: place - distance(trailer, 3),
-            trailer: place,
+            sections: sections_of(lists, trailer),
         })
     }
 }

@@ -1,4 +1,4 @@
-// Call sheets: a book, the marks of two channels, calls and a trailer as one string of octets, and their reader.
+//! Call sheets: a book, the marks of two channels, calls and a trailer as one string of octets, and their reader.
 
 #![tactic(auto)]
 
@@ -7,6 +7,7 @@ mod checks;
 mod faults;
 mod layouts;
 mod parts;
+mod readers;
 mod records;
 mod sections;
 mod sheets;

@@ -1,36 +1,36 @@
-// A record of a sheet as a part of it: its place, its octets, and what they mean.
+//! A record of a sheet as a part of it: its place, its octets, and what they mean.
 ghost use Rattle.std.specs.Prelude.{◌≡◌};
 ghost use Rattle.sheet.specs.Parts.{part_state};
 
 use channels::Mark;
 use link::Call;
 
-// A direction of frames.
+/// A direction of frames.
 #[derive(Clone, Copy, Debug, PartialEq, Eq)]
 pub enum Way {
-    // On channel K.
+    /// On channel K.
     ToHut,
-    // On channel L.
+    /// On channel L.
     Back,
 }
 
-// A record of a sheet. Its place is that of its first octet, counted from 0.
+/// A record of a sheet. Its place is that of its first octet, counted from 0.
 #[derive(Clone, Copy, Debug, PartialEq, Eq)]
 pub enum Part<'s, T> {
-    // A record of the book: a load.
+    /// A record of the book: a load.
     BookRecord {
         place: usize,
         octets: &'s [u8],
         load: T,
     },
-    // A mark for frames of one way.
+    /// A mark for frames of one way.
     Mark {
         place: usize,
         octets: &'s [u8],
         way: Way,
         mark: Mark,
     },
-    // A call.
+    /// A call.
     Call {
         place: usize,
         octets: &'s [u8],
@@ -39,7 +39,7 @@ pub enum Part<'s, T> {
 }
 
 impl<'s, T> Part<'s, T> {
-    // Where the record starts.
+    /// Where the record starts: the place of its first octet, counted from 0.
     pub fn place(&self) -> usize
         ensures answer { result ≡ (part_state self.now).place }
     {
@@ -49,7 +49,7 @@ impl<'s, T> Part<'s, T> {
         }
     }
 
-    // The octets of the record.
+    /// The octets of the record.
     pub fn octets(&self) -> &'s [u8]
         ensures answer { result.now ≡ (part_state self.now).octets }
     {

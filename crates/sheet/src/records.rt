@@ -1,7 +1,8 @@
-// The record at the front of a list's octets, and the octets behind it.
-ghost use Rattle.std.specs.Prelude.{◌≡◌, Ok, Err, MatchResult};
+//! The record at the front of a list's octets, and the octets behind it.
+ghost use Rattle.std.specs.Prelude.{◌≡◌, Ok, Err, MatchResult, slice_index};
+ghost use Rattle.sheet.specs.declared.sections.SectionKind.TheVariants.{Book, Marks, Calls};
 ghost use Rattle.sheet.specs.Parts.{part_state};
-ghost use Rattle.sheet.specs.Records.{plain_call, book_record as book_record_of, mark_record as mark_record_of, request_record as request_record_of, call_record as call_record_of};
+ghost use Rattle.sheet.specs.Records.{plain_call, request_letter, record_of};
 
 use crate::faults::{SheetFault, SheetRefusal};
 use crate::parts::{Part, Way};
@@ -14,7 +15,9 @@ pub(crate) fn book_record<'s, T: Load>(
     place: usize,
     octets: &'s [u8],
 ) -> Result<(Part<'s, T>, &'s [u8]), SheetFault>
-    ensures cases { MatchResult result (λ front. book_record_of T.Load place octets.now ≡ Ok (part_state front.0, front.1.now)) (λ fault. book_record_of T.Load place octets.now ≡ Err fault) }
+    ensures cases { MatchResult result
+        (λ front. record_of T.Load Book place octets.now ≡ Ok (part_state front.0, front.1.now))
+        (λ fault. record_of T.Load Book place octets.now ≡ Err fault) }
 {
     let fault = SheetFault {
         refusal: SheetRefusal::NoLoad,
@@ -37,12 +40,15 @@ pub(crate) fn book_record<'s, T: Load>(
 }
 
 // A mark of a list for one way.
-pub(crate) fn mark_record<'s, T>(
+pub(crate) fn mark_record<'s, T: Load>(
     way: Way,
     place: usize,
     octets: &'s [u8],
 ) -> Result<(Part<'s, T>, &'s [u8]), SheetFault>
-    ensures cases { MatchResult result (λ front. mark_record_of way place octets.now ≡ Ok (part_state front.0, front.1.now)) (λ fault. mark_record_of {T = T} way place octets.now ≡ Err fault) }
+    ensures cases { MatchResult result
+        (λ front. record_of T.Load (Marks way) place octets.now
+        ≡ Ok (part_state front.0, front.1.now))
+        (λ fault. record_of T.Load (Marks way) place octets.now ≡ Err fault) }
 {
     let fault = SheetFault {
         refusal: SheetRefusal::BadMark,
@@ -66,12 +72,15 @@ pub(crate) fn mark_record<'s, T>(
     ))
 }
 
-// A request: its letter, start and count.
-fn request_record<'s, T>(
+// A request, by its letter: start and count follow.
+fn request_record<'s, T: Load>(
     place: usize,
     octets: &'s [u8],
 ) -> Result<(Part<'s, T>, &'s [u8]), SheetFault>
-    ensures cases { MatchResult result (λ front. request_record_of place octets.now ≡ Ok (part_state front.0, front.1.now)) (λ fault. request_record_of {T = T} place octets.now ≡ Err fault) }
+    requires { slice_index octets.now 0 ≡ request_letter }
+    ensures cases { MatchResult result
+        (λ front. record_of T.Load Calls place octets.now ≡ Ok (part_state front.0, front.1.now))
+        (λ fault. record_of T.Load Calls place octets.now ≡ Err fault) }
 {
     let [
         _letter,
@@ -121,11 +130,13 @@ fn plain_call(letter: char) -> Option<Call>
 }
 
 // A call of any kind.
-pub(crate) fn call_record<'s, T>(
+pub(crate) fn call_record<'s, T: Load>(
     place: usize,
     octets: &'s [u8],
 ) -> Result<(Part<'s, T>, &'s [u8]), SheetFault>
-    ensures cases { MatchResult result (λ front. call_record_of place octets.now ≡ Ok (part_state front.0, front.1.now)) (λ fault. call_record_of {T = T} place octets.now ≡ Err fault) }
+    ensures cases { MatchResult result
+        (λ front. record_of T.Load Calls place octets.now ≡ Ok (part_state front.0, front.1.now))
+        (λ fault. record_of T.Load Calls place octets.now ≡ Err fault) }
 {
     let fault = SheetFault {
         refusal: SheetRefusal::BadCall,

@@ -12,7 +12,7 @@ use Rattle.linktext.specs.Lines.{call_text}
 use Rattle.sheet.specs.declared.anysheets.AnySheet.{AnySheet}
 use Rattle.sheet.specs.declared.anysheets.AnySheet.TheVariants.{Readings, Pieces}
 use Rattle.sheet.specs.declared.faults.SheetFault.{SheetFault}
-use Rattle.sheet.specs.AnySheets.{sheet_reads, OctetsBefore}
+use Rattle.sheet.specs.AnySheets.{sheet_reads, HasOctetsBefore}
 use Rattle.sheet.specs.Layouts.{layout_reads}
 use Rattle.sheet.specs.Faults.{fault_text}
 use Rattle.sheet.specs.Sheets.{SheetParts}
@@ -59,7 +59,7 @@ sheet_prints octets = prints (sheet_reads octets)
 
 -- memory may be wanting only where anything is printed, or a good trailer has octets before it
 abbrev pub NeedsMemory : List ℕ → Type 0
-NeedsMemory octets = (0 < length (sheet_prints octets)) ⊎ OctetsBefore (layout_reads octets)
+NeedsMemory octets = (0 < length (sheet_prints octets)) ⊎ HasOctetsBefore (layout_reads octets)
 
 -- where the octets are a sheet, the law holds of its run
 abbrev pub RunsLawfully : Result AnySheet SheetFault → Type 0

@@ -52,13 +52,13 @@ fn run_whole<'m, T: Load>(
 }
 
 // A link over the marks of a sheet, joined with its repeats.
-fn joined_link<'s, T: Load>(sheet: &Sheet<'s, T>) -> RainedLink<'s, T>
+fn joined_link<'m, 's, T: Load>(sheet: &'m Sheet<'s, T>) -> RainedLink<'m, T>
     ensures answer { marked_link T.Load result ≡ link_at_start sheet.now }
     ensures law { (book : List T) →
         HistoryLeads book sheet.now.repeats [] (marked_link T.Load result).link }
 {
-    let to_hut = Rain::new(Wire::new(), sheet.to_hut()).unwrap();
-    let back = Rain::new(Store::new(), sheet.back()).unwrap();
+    let to_hut = Rain::of_marks(Wire::new(), sheet.to_hut()).unwrap();
+    let back = Rain::of_marks(Store::new(), sheet.back()).unwrap();
     let mut link = Link::new(to_hut, back);
     link.join(sheet.repeats()).unwrap();
     link

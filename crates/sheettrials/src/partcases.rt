@@ -79,7 +79,7 @@ fn assert_run<T: Load>(
     sheet: &Sheet<'_, T>,
     repeats: u8,
     loads: usize,
-    marks: (&[u8], &[u8]),
+    marks: (&[Mark], &[Mark]),
     calls: &[Call],
 ) {
     let (to_hut, back) = marks;
@@ -108,7 +108,8 @@ fn a_sheet_of_readings_gives_a_run(rt: HostRuntime) -> Result<(), Fail> {
         start: 258,
         count: 772,
     };
-    assert_run(&rt, &sheet, 3, 2, (&[0, 2], &[1]), &[request, Call::Meet]);
+    let marks: (&[Mark], &[Mark]) = (&[Mark::Pass, Mark::Delay], &[Mark::Lose]);
+    assert_run(&rt, &sheet, 3, 2, marks, &[request, Call::Meet]);
     assert_load(&rt, &sheet, 0, Some(Reading { value: 7 }));
     assert_load(&rt, &sheet, 1, Some(Reading { value: 65_538 }));
     assert_load(&rt, &sheet, 2, None);
@@ -216,7 +217,7 @@ fn a_sheet_of_pieces_gives_a_run(rt: HostRuntime) -> Result<(), Fail> {
     let octets = PIECE_SHEET.octets(rt.alloc())?;
     let sheet = pieces_of(rt.alloc(), &octets).ok_or("no pieces")?;
     let load = Piece::new(20, 1_048_575, 349_525, 3, 0x0123_4567_89AB_CDEF)?;
-    assert_run(&rt, &sheet, 10, 1, (&[], &[2]), &[Call::Reply]);
+    assert_run(&rt, &sheet, 10, 1, (&[], &[Mark::Delay]), &[Call::Reply]);
     assert_load(&rt, &sheet, 0, Some(load));
     Ok(())
 }

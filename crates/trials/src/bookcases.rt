@@ -1,6 +1,6 @@
 // Books at their limits.
 use crate::linksteps::book_of;
-use loads::{EmptyLoad, Load, Piece, Reading};
+use loads::{Book, EmptyLoad, Load, Piece, Reading};
 use std::alloc::Global;
 use std::fmt::Debug;
 use std::process::Abort;
@@ -56,6 +56,21 @@ const READINGS: [(usize, Option<Reading>); 4] = [
 #[test]
 fn a_book_has_its_loads_in_order(rt: HostRuntime) -> Result<(), Fail> {
     has_loads(&rt, rt.alloc(), (3, &THREE_READINGS), 3, &READINGS)
+}
+
+#[test]
+fn a_book_is_made_of_loads(rt: HostRuntime) -> Result<(), Fail> {
+    let mut loads = Vec::new(rt.alloc());
+    assert_eq!(rt; Book::new(Vec::<Reading>::new(rt.alloc())).len(), 0);
+    loads.push(Reading { value: 7 })?;
+    loads.push(Reading { value: 8 })?;
+    let book = Book::new(loads);
+    assert_eq!(rt; book.len(), 2);
+    for (place, load) in &READINGS[..2] {
+        assert_eq!(rt; book.load(*place), *load, "at {place}");
+    }
+    assert_eq!(rt; book.load(2), None);
+    Ok(())
 }
 
 // Three pieces, the one in the middle at a zoom that no map has.

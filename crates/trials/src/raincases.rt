@@ -1,7 +1,7 @@
 // The rain: its marks, their order and their limits.
 use crate::crossings::{below, follow, opening};
 use channel::{Full, Poll, Used};
-use channels::{Hop, Rain, Store};
+use channels::{Hop, Mark, Rain, Store};
 use loads::{EmptyLoad, Frame, Reading, answer_number};
 
 const SEVEN: Frame<Reading> = Frame {
@@ -110,6 +110,29 @@ fn marks_have_their_limits(rt: HostRuntime) {
         let answer = Rain::new(Store::<EmptyLoad>::new(), marks);
         assert_eq!(rt; answer_number(&answer), number, "{marks:?}");
     }
+}
+
+// Marks that are kept as marks, and the number that making a rain of them answers.
+const KEPT_MARKS: [(&[Mark], u8); 4] = [
+    (&[], 0),
+    (&[Mark::Pass, Mark::Lose, Mark::Delay], 0),
+    (&[Mark::Delay; 64], 0),
+    (&[Mark::Pass; 65], 21),
+];
+
+#[test]
+fn kept_marks_have_their_limit(rt: HostRuntime) {
+    for (marks, number) in KEPT_MARKS {
+        let answer = Rain::of_marks(Store::<EmptyLoad>::new(), marks);
+        assert_eq!(rt; answer_number(&answer), number, "{marks:?}");
+    }
+}
+
+#[test]
+fn kept_marks_are_taken_in_order(rt: HostRuntime) {
+    let marks = [Mark::Lose, Mark::Delay, Mark::Pass, Mark::Lose];
+    let mut rain = Rain::of_marks(Store::new(), &marks).unwrap();
+    follow(&rt, &mut rain, &IN_ORDER);
 }
 
 #[test]
