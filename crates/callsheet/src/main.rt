@@ -1,4 +1,4 @@
-// Runs the call sheet on standard input, and prints a line for each call, or one that says why it is turned down.
+//! Runs the call sheet on standard input, and prints a line for each call, or one that says why it is turned down.
 
 #![tactic(auto)]
 

@@ -7,8 +7,8 @@ use loads::{Frame, LONGEST_FRAME, Load};
 use std::marker::PhantomData;
 
 /// A channel with room for the octets of one frame, which it neither delays nor loses.
-// The octets begin at the front. It has no `Model`, whose view would read them by the load kind:
-// then `T: Load` would be asked wherever the type is named.
+/// The octets begin at the front. It has no `Model`, whose view would read them by the load kind:
+/// then `T: Load` would be asked wherever the type is named.
 #[derive(Drop)]
 pub struct Wire<T> {
     octets: Option<[u8; LONGEST_FRAME]>,

@@ -18,7 +18,7 @@ fn digit(value: u8) -> char
 
 /// Adds two digits for each octet to a text, and nothing between them. Open: whether there is
 /// memory for them, where there are any, and what of them the text has if not.
-// Not by the kit's crate `hex`, which does not say that no octets need no memory.
+/// Not by the kit's crate `hex`, which does not say that no octets need no memory.
 pub fn push_hexadecimal(text: &mut String, octets: &[u8]) -> Result<(), AllocError>
     ensures made { OnOk result
         (string_bytes text.new ≡ string_bytes text.old ++ hexadecimal_of octets.now) }

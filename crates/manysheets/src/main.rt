@@ -1,4 +1,4 @@
-// Runs the call sheets on standard input, one on a line with its name, and prints what each of them prints, behind its name.
+//! Runs the call sheets on standard input, one on a line with its name, and prints what each of them prints, behind its name.
 
 #![tactic(auto)]
 

@@ -1,9 +1,9 @@
-// Messages of three loads, all delivered: 17 calls each.
+//! Messages of three loads, all delivered: 17 calls each.
 
 use crate::links::{MOST_LOADS, Tally, deliver, joined_link, readings};
 use std::alloc::Global;
 
-// Sends as many messages as there are rounds.
+/// Sends as many messages as there are rounds.
 pub fn repeat(heap: Global, rounds: u64) -> anyhow::Result<String> {
     let book = readings(heap, MOST_LOADS)?;
     let mut link = joined_link()?;

@@ -1,4 +1,4 @@
-// Frames written and read back: a block of pieces and readings in each round.
+//! Frames written and read back: a block of pieces and readings in each round.
 
 use loads::{Fault, Frame, LONGEST_FRAME, Load, Piece, Reading};
 use std::alloc::Global;
@@ -87,7 +87,7 @@ fn read_block(octets: &[u8]) -> Result<u64, Fault> {
     Ok(sum)
 }
 
-// Writes and reads a block of frames in each round.
+/// Writes and reads a block of frames in each round.
 pub fn repeat(heap: Global, rounds: u64) -> anyhow::Result<String> {
     let pairs = pairs(heap)?;
     let mut octets = Vec::new(heap);

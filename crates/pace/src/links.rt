@@ -1,4 +1,4 @@
-// A link over empty rains, a book of readings, and the sum of what calls answer.
+//! A link over empty rains, a book of readings, and the sum of what calls answer.
 
 use channels::{Rain, Store, Wire};
 use link::{Link, LinkRefusal};
@@ -6,10 +6,10 @@ use loads::{Book, Fault, Reading, Refusal};
 use sheetrun::RainedLink;
 use std::alloc::Global;
 
-// The most loads of a book here.
+/// The most loads of a book here.
 pub const MOST_LOADS: u16 = 4096;
 
-// A link that has joined with 2 repeats, and loses and delays nothing.
+/// A link that has joined with 2 repeats, and loses and delays nothing.
 pub fn joined_link() -> Result<RainedLink<'static, Reading>, LinkRefusal> {
     let to_hut = Rain::new(Wire::new(), &[]).unwrap();
     let back = Rain::new(Store::new(), &[]).unwrap();
@@ -18,7 +18,7 @@ pub fn joined_link() -> Result<RainedLink<'static, Reading>, LinkRefusal> {
     Ok(link)
 }
 
-// A book of readings. The factor spreads their values over all 32 bits.
+/// A book of readings. The factor spreads their values over all 32 bits.
 pub fn readings(heap: Global, loads: u16) -> Result<Book<Reading>, Fault> {
     let mut octets = Vec::new(heap);
     for place in 0..u32::from(loads) {
@@ -28,7 +28,7 @@ pub fn readings(heap: Global, loads: u16) -> Result<Book<Reading>, Fault> {
     Book::read(heap, usize::from(loads), &octets)
 }
 
-// How many calls were made, and the sum of their answers' numbers and of what they show.
+/// How many calls were made, and the sum of their answers' numbers and of what they show.
 #[derive(Drop)]
 pub struct Tally {
     pub calls: u64,
@@ -40,12 +40,12 @@ impl Tally {
         Tally { calls: 0, sum: 0 }
     }
 
-    // Adds to the sum.
+    /// Adds to the sum.
     pub fn add(&mut self, value: u32) {
         self.sum = self.sum.wrapping_add(value);
     }
 
-    // Counts a call with its answer, and gives what an accepted one shows.
+    /// Counts a call with its answer, and gives what an accepted one shows.
     pub fn take<X>(&mut self, answer: Result<X, LinkRefusal>) -> Option<X> {
         self.calls = self.calls.wrapping_add(1);
         match answer {
@@ -58,7 +58,7 @@ impl Tally {
     }
 }
 
-// Makes the five calls by which the next load is delivered.
+/// Makes the five calls by which the next load is delivered.
 pub fn deliver(link: &mut RainedLink<'static, Reading>, book: &Book<Reading>, tally: &mut Tally) {
     tally.take(link.send(book));
     tally.take(link.carry());

@@ -1,4 +1,4 @@
-// Repeats calls of a link, or frames written and read, as often as standard input says, for measuring how long they take.
+//! Repeats calls of a link, or frames written and read, as often as standard input says, for measuring how long they take.
 
 #![tactic(auto)]
 

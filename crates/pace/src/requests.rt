@@ -1,4 +1,4 @@
-// Messages of one load from all places of a book, of which some are abandoned.
+//! Messages of one load from all places of a book, of which some are abandoned.
 
 use crate::links::{MOST_LOADS, Tally, deliver, joined_link, readings};
 use link::Word;
@@ -20,7 +20,7 @@ fn next(number: u64) -> u64 {
         .wrapping_add(1_442_695_040_888_963_407)
 }
 
-// Asks for as many messages as there are rounds, on a book of so many loads.
+/// Asks for as many messages as there are rounds, on a book of so many loads.
 pub fn repeat(heap: Global, loads: u16, rounds: u64) -> anyhow::Result<String> {
     let loads = loads.clamp(1, MOST_LOADS);
     let book = readings(heap, loads)?;

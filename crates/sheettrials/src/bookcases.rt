@@ -1,4 +1,4 @@
-// Books: records that are cut short, and pieces outside the map.
+//! Books: records that are cut short, and pieces outside the map.
 use crate::plans::{NOTHING, PIECES, Plan, READINGS, plan_turned_down};
 use std::test::Fail;
 

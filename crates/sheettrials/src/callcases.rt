@@ -1,4 +1,4 @@
-// Calls: their letters, the operands of a request, and how many there are.
+//! Calls: their letters, the operands of a request, and how many there are.
 use crate::plans::{NOTHING, Plan, plan_turned_down};
 use std::test::Fail;
 

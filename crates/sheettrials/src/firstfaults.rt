@@ -1,4 +1,4 @@
-// Sheets with two faults: the smaller number is given, and of one number the first place.
+//! Sheets with two faults: the smaller number is given, and of one number the first place.
 use crate::plans::{NOTHING, PIECES, Plan, READINGS, plan_turned_down, turned_down, with_trailer};
 use std::test::Fail;
 

@@ -1,4 +1,4 @@
-// Call sheets at their limits, what is read from them, and what they print.
+//! Call sheets at their limits, what is read from them, and what they print.
 
 #![tactic(auto)]
 

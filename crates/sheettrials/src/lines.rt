@@ -1,4 +1,4 @@
-// All that a sheet prints.
+//! All that a sheet prints.
 use crate::plans::Source::{Lists, Octets, Runs};
 use crate::plans::{PIECES, READINGS, Source};
 use sheetrun::sheet_lines;

@@ -1,4 +1,4 @@
-// The marks of both lists.
+//! The marks of both lists.
 use crate::plans::{NOTHING, Plan, plan_turned_down};
 use std::test::Fail;
 

@@ -1,4 +1,4 @@
-// What a sheet gives: its parts, and what a run takes from them.
+//! What a sheet gives: its parts, and what a run takes from them.
 use crate::plans::{NOTHING, PIECES, Plan, pieces_of, readings_of};
 use channels::Mark;
 use link::Call;

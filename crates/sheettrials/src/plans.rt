@@ -1,16 +1,16 @@
-// What the cases share: sheets built from their lists, and a table of sheets that are read or turned down.
+//! What the cases share: sheets built from their lists, and a table of sheets that are read or turned down.
 use loads::{Piece, Reading, Refusal};
 use sheet::{AnySheet, ReadError, Sheet};
 use std::alloc::{AllocError, Global};
 use std::process::Abort;
 
-// The octet kind of a sheet of readings.
+/// The octet kind of a sheet of readings.
 pub const READINGS: u8 = 1;
 
-// The octet kind of a sheet of pieces.
+/// The octet kind of a sheet of pieces.
 pub const PIECES: u8 = 2;
 
-// A sheet by its lists and settings.
+/// A sheet by its lists and settings.
 #[derive(Clone, Copy, Debug)]
 pub struct Plan<'s> {
     pub book: &'s [u8],
@@ -21,7 +21,7 @@ pub struct Plan<'s> {
     pub repeats: u8,
 }
 
-// A sheet of readings with nothing in it.
+/// A sheet of readings with nothing in it.
 pub const NOTHING: Plan<'static> = Plan {
     book: &[],
     to_hut: &[],
@@ -31,23 +31,23 @@ pub const NOTHING: Plan<'static> = Plan {
     repeats: 0,
 };
 
-// Octets, and how often they stand one after another.
+/// Octets, and how often they stand one after another.
 pub type Run = (&'static [u8], usize);
 
-// What the octets of a case are made from.
+/// What the octets of a case are made from.
 #[derive(Clone, Copy)]
 pub enum Source<'s> {
-    // The lists of a sheet (book, marks of K, marks of L, calls), and its kind and repeats.
+    /// The lists of a sheet (book, marks of K, marks of L, calls), and its kind and repeats.
     Lists(&'s [u8], &'s [u8], &'s [u8], &'s [u8], [u8; 2]),
-    // Octets, and then distances and settings, whatever they say.
+    /// Octets, and then distances and settings, whatever they say.
     Trailer(&'s [u8], [usize; 4], [u8; 2]),
-    // The same of octets that stand there more than once.
+    /// The same of octets that stand there more than once.
     Runs(&'s [Run], [usize; 4], [u8; 2]),
-    // Octets without a trailer of their own.
+    /// Octets without a trailer of their own.
     Octets(&'s [Run]),
 }
 
-// A name, octets, and the number and the place for which they are turned down; none where they are a sheet.
+/// A name, octets, and the number and the place for which they are turned down; none where they are a sheet.
 pub type Case<'s> = (&'s str, Source<'s>, Option<(u8, usize)>);
 
 // A number as the low four of its octets, highest first.
@@ -56,7 +56,7 @@ fn four_octets(number: usize) -> [u8; 4] {
     [highest, high, low, lowest]
 }
 
-// Octets and a trailer behind them, whatever it says.
+/// Octets and a trailer behind them, whatever it says.
 pub fn with_trailer(
     heap: Global,
     front: &[u8],
@@ -76,7 +76,7 @@ pub fn with_trailer(
 }
 
 impl<'s> Plan<'s> {
-    // The octets of the sheet, with the distances that its lists have.
+    /// The octets of the sheet, with the distances that its lists have.
     pub fn octets(&self, heap: Global) -> Result<Vec<u8>, AllocError> {
         let front = [self.book, self.to_hut, self.back, self.calls].concat(heap)?;
         let to_calls = self.calls.len();
@@ -97,7 +97,7 @@ fn octets_of(heap: Global, runs: &[Run]) -> Result<Vec<u8>, AllocError> {
 }
 
 impl<'s> Source<'s> {
-    // The octets that are made from it.
+    /// The octets that are made from it.
     pub fn octets(&self, heap: Global) -> Result<Vec<u8>, AllocError> {
         match self {
             Source::Lists(book, to_hut, back, calls, [kind, repeats]) => {
@@ -123,7 +123,7 @@ impl<'s> Source<'s> {
     }
 }
 
-// The number and the place for which octets are turned down; none where they are a sheet.
+/// The number and the place for which octets are turned down; none where they are a sheet.
 pub fn turned_down(heap: Global, octets: &[u8]) -> Result<Option<(u8, usize)>, AllocError> {
     match AnySheet::read(heap, octets) {
         Ok(_) => Ok(None),
@@ -132,12 +132,12 @@ pub fn turned_down(heap: Global, octets: &[u8]) -> Result<Option<(u8, usize)>, A
     }
 }
 
-// The same of a plan.
+/// The same of a plan.
 pub fn plan_turned_down(heap: Global, plan: &Plan<'_>) -> Result<Option<(u8, usize)>, AllocError> {
     turned_down(heap, &plan.octets(heap)?)
 }
 
-// Each case must have its answer.
+/// Each case must have its answer.
 pub fn assert_answers(rt: &impl Abort, heap: Global, cases: &[Case<'_>]) -> Result<(), AllocError> {
     for (name, source, answer) in cases {
         let octets = source.octets(heap)?;
@@ -146,7 +146,7 @@ pub fn assert_answers(rt: &impl Abort, heap: Global, cases: &[Case<'_>]) -> Resu
     Ok(())
 }
 
-// The sheet that octets are, if it is one of readings.
+/// The sheet that octets are, if it is one of readings.
 pub fn readings_of<'s>(heap: Global, octets: &'s [u8]) -> Option<Sheet<'s, Reading>> {
     match AnySheet::read(heap, octets) {
         Ok(AnySheet::Readings(sheet)) => Some(sheet),
@@ -154,7 +154,7 @@ pub fn readings_of<'s>(heap: Global, octets: &'s [u8]) -> Option<Sheet<'s, Readi
     }
 }
 
-// The same, if it is one of pieces.
+/// The same, if it is one of pieces.
 pub fn pieces_of<'s>(heap: Global, octets: &'s [u8]) -> Option<Sheet<'s, Piece>> {
     match AnySheet::read(heap, octets) {
         Ok(AnySheet::Pieces(sheet)) => Some(sheet),

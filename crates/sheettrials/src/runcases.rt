@@ -1,4 +1,4 @@
-// Runs of sheets as events, and runs by marks into logs of other lengths.
+//! Runs of sheets as events, and runs by marks into logs of other lengths.
 use crate::plans::{NOTHING, PIECES, Plan, pieces_of, readings_of};
 use channels::{Rain, Store, Wire};
 use link::{Answer, Call, Event, Heard, Link, LinkRefusal, Position};

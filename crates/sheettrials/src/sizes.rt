@@ -1,4 +1,4 @@
-// How many octets a sheet has.
+//! How many octets a sheet has.
 use crate::plans::Source::{Octets, Runs};
 use crate::plans::{Case, NOTHING, READINGS, Source, assert_answers};
 use std::test::Fail;

@@ -1,4 +1,4 @@
-// The numbers of refusals, and why there is no sheet, as text.
+//! The numbers of refusals, and why there is no sheet, as text.
 use loads::Refusal;
 use sheet::{ReadError, SheetFault, SheetRefusal};
 use std::alloc::AllocError;

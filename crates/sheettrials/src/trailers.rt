@@ -1,4 +1,4 @@
-// The trailer: kinds, repeats and distances.
+//! The trailer: kinds, repeats and distances.
 use crate::plans::{NOTHING, Plan, READINGS, plan_turned_down, turned_down, with_trailer};
 use std::test::Fail;
 

@@ -57,7 +57,8 @@ fn send_three<K: Channel<Reading>, L: Channel<EmptyLoad>>(
     book: &Book<Reading>,
 ) -> Result<[Event<Reading>; 27], LinkRefusal>
     ensures calls { IfOk result (λ log. map call_of log ≡ sendings) }
-    ensures law { IfOk result (λ log. HistoryLeads book.now 2 log (plain K.Channel L.Channel link.new)
+    ensures law { IfOk result (λ log.
+        HistoryLeads book.now 2 log (plain K.Channel L.Channel link.new)
         × IsLawful book.now 2 log) }
 {
     link.join(2)?;

@@ -1,4 +1,4 @@
-// Books at their limits.
+//! Books at their limits.
 use crate::linksteps::book_of;
 use loads::{Book, EmptyLoad, Load, Piece, Reading};
 use std::alloc::Global;

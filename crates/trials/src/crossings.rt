@@ -1,4 +1,4 @@
-// What the cases on channels share: frames, rains, and rows of uses that a channel is held against.
+//! What the cases on channels share: frames, rains, and rows of uses that a channel is held against.
 use channel::{Channel, Poll, Use, Used};
 use channels::Rain;
 use loads::{Frame, Load};
@@ -15,17 +15,17 @@ fn framed<T>([first, last, toggle]: [bool; 3], load: T) -> Frame<T> {
     }
 }
 
-// The first frame of a message, with its toggle off.
+/// The first frame of a message, with its toggle off.
 pub fn opening<T>(load: T) -> Frame<T> {
     framed([true, false, false], load)
 }
 
-// The last frame of a message, with its toggle on.
+/// The last frame of a message, with its toggle on.
 pub fn closing<T>(load: T) -> Frame<T> {
     framed([false, true, true], load)
 }
 
-// A channel below a rain of these marks.
+/// A channel below a rain of these marks.
 pub fn below<'m, C: Drop>(rt: &impl Abort, channel: C, marks: &'m [u8]) -> Rain<'m, C> {
     let Ok(rain) = Rain::new(channel, marks) else {
         panic!(rt; "these are no marks");
@@ -43,7 +43,7 @@ fn waits_after<T>(used: &Used<T>) -> Option<bool> {
     }
 }
 
-// Makes each use of a row in order. The channel must answer as the row says, and hold a frame or not.
+/// Makes each use of a row in order. The channel must answer as the row says, and hold a frame or not.
 pub fn follow<T: Load + Debug + PartialEq, C: Channel<T>>(
     rt: &impl Abort,
     channel: &mut C,

@@ -1,4 +1,4 @@
-// Frames at their limits.
+//! Frames at their limits.
 use crate::crossings::opening;
 use loads::{EmptyLoad, Frame, Load, Piece, Reading, answer_number as number_of, frame_comes_back};
 use std::fmt::Debug;

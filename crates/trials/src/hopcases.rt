@@ -1,4 +1,4 @@
-// The hop: near and far, empty and holding.
+//! The hop: near and far, empty and holding.
 use crate::crossings::{below, follow, opening};
 use channel::{Full, Poll, Used};
 use channels::{Hop, Store, Wire};

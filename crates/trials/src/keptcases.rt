@@ -1,4 +1,4 @@
-// Channels that cannot be let go: whatever holds them has to hand them back.
+//! Channels that cannot be let go: whatever holds them has to hand them back.
 use crate::crossings::{follow, opening};
 use channel::{Channel, Full, Poll, Used};
 use channels::{Hop, Rain, Store};

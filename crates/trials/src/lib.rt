@@ -1,4 +1,4 @@
-// Worked examples and cases at each limit, held against the libraries.
+//! Worked examples and cases at each limit, held against the libraries.
 
 #![tactic(auto)]
 

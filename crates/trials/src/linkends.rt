@@ -1,4 +1,4 @@
-// How messages end: cases of a link, on readings.
+//! How messages end: cases of a link, on readings.
 use crate::linksteps::Step::{Join, Make, Outcome};
 use crate::linksteps::{
     ARRIVED, Case, DONE, DONT_KNOW, FIRST_7, LOST, NOT_DUE, NOT_OK, OK, ONE, ONLY_7, TWO,

@@ -1,4 +1,4 @@
-// A link after a message: what may be asked for before the ends have met, and how the next message goes.
+//! A link after a message: what may be asked for before the ends have met, and how the next message goes.
 use crate::linksteps::Step::{Join, Make, Outcome};
 use crate::linksteps::{
     ARRIVED, Case, DONE, FIRST_7, LAST_8, NOT_DUE, NOT_OK, OK, TWO, follow_cases,

@@ -1,4 +1,4 @@
-// A message of three loads over a link that loses a frame and a reply, at every load kind; and of one load over piles.
+//! A message of three loads over a link that loses a frame and a reply, at every load kind; and of one load over piles.
 use crate::crossings::below;
 use crate::linksteps::Step::{Join, Make, Outcome};
 use crate::linksteps::{

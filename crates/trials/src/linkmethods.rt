@@ -1,4 +1,4 @@
-// A message up to its break, each call made by its own method.
+//! A message up to its break, each call made by its own method.
 use crate::linksteps::{ARRIVED, Answered, DONE, FIRST_7, NOT_DUE, NOT_OK, TWO, readings};
 use channel::Channel;
 use channels::{Store, Wire};

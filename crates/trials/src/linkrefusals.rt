@@ -1,4 +1,4 @@
-// The refusals of a link: their numbers, and calls that are turned down by them.
+//! The refusals of a link: their numbers, and calls that are turned down by them.
 use crate::crossings::{follow, opening};
 use crate::linksteps::Step::{Join, Make, Outcome};
 use crate::linksteps::{

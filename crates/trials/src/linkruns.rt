@@ -1,4 +1,4 @@
-// Runs of a link: one after another, with a short log, and on a link that is not joined.
+//! Runs of a link: one after another, with a short log, and on a link that is not joined.
 use crate::linksteps::Step::{Join, Make, Outcome};
 use crate::linksteps::{
     ARRIVED, Answered, DONE, FIRST_7, LAST_8, NOT_DUE, OK, Step, TWO, follow_link, readings,

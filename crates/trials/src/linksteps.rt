@@ -1,4 +1,4 @@
-// What the cases on links share: what is done with a link and what it must answer, and how a table of such cases is followed.
+//! What the cases on links share: what is done with a link and what it must answer, and how a table of such cases is followed.
 use crate::crossings::below;
 use channel::Channel;
 use channels::{Store, Wire};
@@ -9,7 +9,7 @@ use std::fmt::Debug;
 use std::process::Abort;
 use std::test::Fail;
 
-// What a call answers.
+/// What a call answers.
 pub type Answered<T> = Result<Answer<T>, LinkRefusal>;
 
 pub const DONE: Answered<Reading> = Ok(Answer::Done);
@@ -28,22 +28,22 @@ pub const DONT_KNOW: Answered<Reading> = Ok(Answer::Confirmed(Word::DontKnow));
 
 pub const NOT_DUE: Answered<Reading> = Err(LinkRefusal::NotDue);
 
-// The hut is told the first of the readings: as the only one of its message, or as the first of several.
+/// The hut is told the first of the readings: as the only one of its message, or as the first of several.
 pub const ONLY_7: Answered<Reading> = Ok(Answer::Told(Position::Ok, Reading { value: 7 }));
 
 pub const FIRST_7: Answered<Reading> = Ok(Answer::Told(Position::First, Reading { value: 7 }));
 
-// The hut is told the second, as the last of its message.
+/// The hut is told the second, as the last of its message.
 pub const LAST_8: Answered<Reading> = Ok(Answer::Told(Position::Ok, Reading { value: 8 }));
 
-// A request of the first reading, of the first two, or of all three.
+/// A request of the first reading, of the first two, or of all three.
 pub const ONE: Call = Call::Request { start: 0, count: 1 };
 
 pub const TWO: Call = Call::Request { start: 0, count: 2 };
 
 pub const THREE: Call = Call::Request { start: 0, count: 3 };
 
-// What is done with a link, with what it must answer.
+/// What is done with a link, with what it must answer.
 #[derive(Clone, Copy, Debug, PartialEq)]
 pub enum Step<T> {
     Join(u8, Result<(), LinkRefusal>),
@@ -51,7 +51,7 @@ pub enum Step<T> {
     Outcome(Result<(Word, u32), LinkRefusal>),
 }
 
-// A link under marks for each way, over a book of so many of three readings, and what is done with it in order.
+/// A link under marks for each way, over a book of so many of three readings, and what is done with it in order.
 #[derive(Clone, Copy)]
 pub struct Case {
     pub name: &'static str,
@@ -61,7 +61,7 @@ pub struct Case {
     pub steps: &'static [Step<Reading>],
 }
 
-// The book of octets.
+/// The book of octets.
 pub fn book_of<T: Load>(heap: Global, count: usize, octets: &[u8]) -> Result<Book<T>, Fail> {
     let book = Book::<T>::read(heap, count, octets)?;
     Ok(book)
@@ -69,7 +69,7 @@ pub fn book_of<T: Load>(heap: Global, count: usize, octets: &[u8]) -> Result<Boo
 
 const THREE_READINGS: [u8; 12] = [0, 0, 0, 7, 0, 0, 0, 8, 0, 0, 0, 9];
 
-// A book of so many of the readings 7, 8 and 9.
+/// A book of so many of the readings 7, 8 and 9.
 pub fn readings(heap: Global, count: usize) -> Result<Book<Reading>, Fail> {
     book_of(heap, count, &THREE_READINGS)
 }
@@ -90,7 +90,7 @@ fn take<T: Load, K: Channel<T>, L: Channel<EmptyLoad>>(
     }
 }
 
-// Does each step in order. The link must answer as it says.
+/// Does each step in order. The link must answer as it says.
 pub fn follow_link<T: Load + Debug + PartialEq, K: Channel<T>, L: Channel<EmptyLoad>>(
     rt: &impl Abort,
     link: &mut Link<T, K, L>,
@@ -103,7 +103,7 @@ pub fn follow_link<T: Load + Debug + PartialEq, K: Channel<T>, L: Channel<EmptyL
     }
 }
 
-// Does each step on a link over these channels, not joined.
+/// Does each step on a link over these channels, not joined.
 pub fn follow_new<T: Load + Debug + PartialEq, K: Channel<T> + Drop, L: Channel<EmptyLoad> + Drop>(
     rt: &impl Abort,
     (to_hut, back): (K, L),
@@ -115,7 +115,7 @@ pub fn follow_new<T: Load + Debug + PartialEq, K: Channel<T> + Drop, L: Channel<
     follow_link(rt, &mut link, book, name, steps);
 }
 
-// Follows each case on a wire and a store, each below a rain, and also without rains where there are no marks.
+/// Follows each case on a wire and a store, each below a rain, and also without rains where there are no marks.
 pub fn follow_cases(rt: &impl Abort, heap: Global, cases: &[Case]) -> Result<(), Fail> {
     for Case {
         name,

@@ -1,4 +1,4 @@
-// The letters of calls, the words of answers, and the printed lines of a link.
+//! The letters of calls, the words of answers, and the printed lines of a link.
 use crate::linksteps::{
     ARRIVED, Answered, DONE, DONT_KNOW, LOST, NOT_DUE, NOT_OK, OK, ONE, ONLY_7, STILL,
 };

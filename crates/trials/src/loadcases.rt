@@ -1,4 +1,4 @@
-// Loads at their limits.
+//! Loads at their limits.
 use loads::{
     EmptyLoad, Fault, Load, Piece, Reading, Refusal, answer_number as number_of, load_comes_back,
 };

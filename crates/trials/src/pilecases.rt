@@ -1,4 +1,4 @@
-// A pile five deep: a rain over a hop, whose near is a rain over a hop from a wire to a store.
+//! A pile five deep: a rain over a hop, whose near is a rain over a hop from a wire to a store.
 use crate::crossings::{follow, opening};
 use channel::{Full, Poll, Used};
 use channels::{Hop, Rain, Store, Wire};

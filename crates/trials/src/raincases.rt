@@ -1,4 +1,4 @@
-// The rain: its marks, their order and their limits.
+//! The rain: its marks, their order and their limits.
 use crate::crossings::{below, follow, opening};
 use channel::{Full, Poll, Used};
 use channels::{Hop, Mark, Rain, Store};

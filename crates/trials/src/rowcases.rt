@@ -1,4 +1,4 @@
-// Rows of uses, and how much of a row the log has room for.
+//! Rows of uses, and how much of a row the log has room for.
 use crate::crossings::{closing, opening};
 use channel::{Full, Poll, Use, Used, make_uses};
 use channels::{Store, Wire};

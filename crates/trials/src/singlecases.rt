@@ -1,4 +1,4 @@
-// The store and the wire: one frame, which arrives.
+//! The store and the wire: one frame, which arrives.
 use crate::crossings::{closing, follow, opening};
 use channel::{Full, Poll, Used};
 use channels::{Store, Wire};

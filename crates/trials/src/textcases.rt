@@ -1,4 +1,4 @@
-// The text of frames and of what became of them.
+//! The text of frames and of what became of them.
 use channel::{Full, Poll, Used};
 use frametext::{AnyFrame, frame_line, frame_lines, hexadecimal, use_line};
 use loads::{EmptyLoad, Frame, Reading};

@@ -1,4 +1,4 @@
-// The timer question at its limits.
+//! The timer question at its limits.
 use link::{TimerRefusal, timers_fit};
 use loads::Refusal;
 
