@@ -1,6 +1,6 @@
 -- A history seen turn by turn, with no machine: what is still to come of a message, and what follows for its word.
-use Rattle.std.proofs.Common.{◌≡◌, ◌≢◌, ◌↔◌, ℕ, zero, suc, pred, ◌+◌, ◌<◌, ◌≤◌, Bool, true, false, ◌||◌, List, [], ◌∷◌, take, drop, map, length, Some, None, Option, refl, ap, add-zero, zero-add, arith, rules, tests}
-use Rattle.std.specs.Prelude.{◌==◌, IfSome, IsTrue, All, filter}
+use Rattle.std.proofs.Common.{◌≡◌, ◌↔◌, ℕ, zero, suc, pred, ◌+◌, ◌<◌, ◌≤◌, Bool, true, false, ◌||◌, List, [], ◌∷◌, take, drop, map, length, Some, None, Option, refl, ap, add-zero, zero-add, arith, rules, tests}
+use Rattle.std.specs.Prelude.{◌==◌, IfSome, IsFalse, All, filter}
 use Rattle.std.specs.List.{list_any, slice_split, onto_first}
 use Rattle.std.proofs.Math.Seq.{take-nil}
 use Rattle.std.proofs.lemmas.List.Elements.{All-nil, All-cons}
@@ -120,8 +120,8 @@ module _ {T : Type 0} where
   pub record Said (repeats : ℕ) (w : Watch T) (turns : List (Turn T)) : Type 0 where
     pub in_order : told_in turns ≡ take (length (told_in turns)) w.left
     pub word_fits : IfSome (said turns) (λ word. WordFits word (length w.left) (length (told_in turns)))
-    pub failure : IfSome (said turns) (λ said. (said ≢ word.Ok)
-        ↔ IsTrue ((w.given || abandoned turns) || over repeats w.loss w.count turns))
+    pub failure : IfSome (said turns) (λ said. (said ≡ word.Ok)
+        ↔ IsFalse ((w.given || abandoned turns) || over repeats w.loss w.count turns))
 
   failing : (repeats loss count : ℕ) (given : Bool) (word : Word) (turns : List (Turn T)) → turns ≡ ends word ∷ [] → 0 < count
       → (given || (loss == repeats + 1)) ≡ true → ((given || false) || over repeats loss count turns) ≡ true
@@ -133,17 +133,17 @@ module _ {T : Type 0} where
   ended repeats w word.Ok (left, count, given) = record {
     in_order = refl;
     word_fits = rw left refl;
-    failure = ((λ other. absurd (other refl)), rw (count, given) (λ failed. cc));
+    failure = rw (count, given) ((λ ok. refl), (λ kept. refl));
   }
   ended repeats w word.NotOk (left, (some, why)) = record {
     in_order = refl;
     word_fits = left;
-    failure = ((λ other. failing repeats w.loss w.count w.given word.NotOk (ends word.NotOk ∷ []) refl some why), (λ failed ok. cc));
+    failure = rw (failing repeats w.loss w.count w.given word.NotOk (ends word.NotOk ∷ []) refl some why) ((λ ok. cc), (λ kept. cc));
   }
   ended repeats w word.DontKnow (left, (some, why)) = record {
     in_order = refl;
     word_fits = left;
-    failure = ((λ other. failing repeats w.loss w.count w.given word.DontKnow (ends word.DontKnow ∷ []) refl some why), (λ failed ok. cc));
+    failure = rw (failing repeats w.loss w.count w.given word.DontKnow (ends word.DontKnow ∷ []) refl some why) ((λ ok. cc), (λ kept. cc));
   }
 
   said_told : (repeats : ℕ) (w : Watch T) (position : Position) (load : T) (turns : List (Turn T)) → w.left ≡ (position, load) ∷ drop 1 w.left

@@ -1,10 +1,9 @@
 -- Join, the twelve calls and the question for the outcome: what each comes to.
-use Rattle.std.specs.Prelude.{ℕ, ◌||◌, if◌then◌else◌, nat_lt, is_some, List, [], ◌∷◌, length, Ok, Err, Result, Some, ok_or}
+use Rattle.std.specs.Prelude.{ℕ, ◌||◌, if◌then◌else◌, nat_lt, is_some, List, [], drop, length, Ok, Err, Result, Some, ok_or}
 use Rattle.loads.specs.declared.empties.EmptyLoad.{EmptyLoad}
 use Rattle.channel.specs.declared.polls.Poll.{Poll}
 use Rattle.channel.specs.declared.polls.Poll.TheVariants as poll
-use Rattle.channel.specs.declared.rows.Used.TheVariants as used
-use Rattle.channel.specs.Rules.{held, poll_leaves}
+use Rattle.channel.specs.Rules.{held}
 use Rattle.link.specs.declared.calls.Call.{Call}
 use Rattle.link.specs.declared.calls.Call.TheVariants as call
 use Rattle.link.specs.declared.events.Answer.{Answer}
@@ -16,17 +15,11 @@ use Rattle.link.specs.declared.words.Heard.{Heard}
 use Rattle.link.specs.declared.words.Position.{Position}
 use Rattle.link.specs.declared.words.Word.{Word}
 use Rattle.link.specs.Changes.{◌>>=◌, PutEffect, offers}
-use Rattle.link.specs.Effects.{Effect, alone, if_joined, polled, heard_of}
+use Rattle.link.specs.Effects.{Effect, alone, polled, heard_of, polls}
 use Rattle.link.specs.States.{SenderState, HutState, LinkState, started}
 use Rattle.link.specs.Timers.{most_repeats}
 use Rattle.link.specs.Senders as sender
 use Rattle.link.specs.Huts as hut
-
--- a return hears of a reply: the sender is told of it; the bits of a reply are not looked at
-abbrev pub reply_polled : Poll EmptyLoad → SenderState → SenderState
-reply_polled (poll.Arrived reply) before = sender.replied before
-reply_polled poll.Lost before = sender.missed before
-reply_polled answer before = before
 
 module _ {T : Type 0} where
   -- join
@@ -58,26 +51,26 @@ module _ {T : Type 0} where
   }
 
   abbrev pub send : List T → LinkState T → Effect T (Unit {0})
-  send book link = if_joined link.repeats link (sent (offers link.sender link.to_hut (sender.send book link.sender)) link)
+  send book link = sent (offers link.sender link.to_hut (joined link >>= λ _. sender.send book link.sender)) link
 
-  -- a carry hears of a frame: one that arrived reaches the hut, and of a lost one the sender is told
-  abbrev pub frame_polled : Poll T → LinkState T → LinkState T
-  frame_polled (poll.Arrived frame) link = record link { hut = hut.arrived link.hut frame }
-  frame_polled poll.Lost link = record link { sender = sender.missed link.sender }
+  -- carry, by what channel K answers, unless it is turned down before: a frame that arrives reaches the hut, and of a lost one
+  -- the sender is told
+  abbrev pub frame_polled : Result (Poll T) LinkRefusal → LinkState T → LinkState T
+  frame_polled (Ok (poll.Arrived frame)) link = record link { hut = hut.arrived link.hut frame; to_hut = drop 1 link.to_hut }
+  frame_polled (Ok poll.Lost) link = record link { sender = sender.missed link.sender; to_hut = drop 1 link.to_hut }
   frame_polled answer link = link
 
-  -- carry, by what channel K answers
-  abbrev pub carried : Poll T → LinkState T → Effect T Heard
+  abbrev pub carried : Result (Poll T) LinkRefusal → LinkState T → Effect T Heard
   carried answer link = record {
-    answer = heard_of answer;
-    after = record (frame_polled answer link) { to_hut = poll_leaves link.to_hut answer };
-    to_hut = used.Poll answer ∷ [];
+    answer = answer >>= heard_of;
+    after = frame_polled answer link;
+    to_hut = polls answer;
     back = [];
   }
 
   -- carry, by what the channel chooses
   abbrev pub carry : Heard → LinkState T → Effect T Heard
-  carry heard link = if_joined link.repeats link (carried (polled heard link.to_hut) link)
+  carry heard link = carried (joined link >>= λ _. Ok (polled heard link.to_hut)) link
 
   -- tell: one load more was told
   abbrev pub tell : LinkState T → Effect T (Position × T)
@@ -96,20 +89,26 @@ module _ {T : Type 0} where
   }
 
   abbrev pub reply : LinkState T → Effect T (Unit {0})
-  reply link = if_joined link.repeats link (replied (offers link.hut link.back (hut.reply link.hut)) link)
+  reply link = replied (offers link.hut link.back (joined link >>= λ _. hut.reply link.hut)) link
 
-  -- return, by what channel L answers
-  abbrev pub returned : Poll EmptyLoad → LinkState T → Effect T Heard
+  -- return, by what channel L answers, unless it is turned down before: the sender is told of a reply that arrives, whose bits
+  -- are not looked at, and of a lost one
+  abbrev pub reply_polled : Result (Poll EmptyLoad) LinkRefusal → LinkState T → LinkState T
+  reply_polled (Ok (poll.Arrived reply)) link = record link { sender = sender.replied link.sender; back = drop 1 link.back }
+  reply_polled (Ok poll.Lost) link = record link { sender = sender.missed link.sender; back = drop 1 link.back }
+  reply_polled answer link = link
+
+  abbrev pub returned : Result (Poll EmptyLoad) LinkRefusal → LinkState T → Effect T Heard
   returned answer link = record {
-    answer = heard_of answer;
-    after = record link { sender = reply_polled answer link.sender; back = poll_leaves link.back answer };
+    answer = answer >>= heard_of;
+    after = reply_polled answer link;
     to_hut = [];
-    back = used.Poll answer ∷ [];
+    back = polls answer;
   }
 
   -- return, by what the channel chooses
   abbrev pub return : Heard → LinkState T → Effect T Heard
-  return heard link = if_joined link.repeats link (returned (polled heard link.back) link)
+  return heard link = returned (joined link >>= λ _. Ok (polled heard link.back)) link
 
   -- retry
   abbrev pub retry : LinkState T → Effect T (Unit {0})

@@ -1,12 +1,13 @@
 -- What a call of a link comes to: its answer, the link after, and how it uses each channel.
-use Rattle.std.specs.Prelude.{ℕ, List, [], ◌∷◌, Ok, Err, Result, Some, None, Option}
+use Rattle.std.specs.Prelude.{List, [], ◌∷◌, Ok, Err, Result}
 use Rattle.loads.specs.declared.frames.Frame.{Frame}
 use Rattle.loads.specs.declared.empties.EmptyLoad.{EmptyLoad}
 use Rattle.channel.specs.declared.polls.Poll.{Poll}
 use Rattle.channel.specs.declared.polls.Poll.TheVariants as poll
 use Rattle.channel.specs.declared.rows.Used.{Used}
+use Rattle.channel.specs.declared.rows.Used.TheVariants as used
 use Rattle.link.specs.declared.refusals.LinkRefusal.{LinkRefusal}
-use Rattle.link.specs.declared.refusals.LinkRefusal.TheVariants.{NotJoined, NothingWaits}
+use Rattle.link.specs.declared.refusals.LinkRefusal.TheVariants.{NothingWaits}
 use Rattle.link.specs.declared.words.Heard.{Heard}
 use Rattle.link.specs.declared.words.Heard.TheVariants.{Still, Arrived, Lost}
 use Rattle.link.specs.Changes.{answer_of, after_of}
@@ -19,15 +20,9 @@ pub record Effect (T X : Type 0) : Type 0 where
   pub to_hut : List (Used T)
   pub back : List (Used EmptyLoad)
 
-module _ {T X : Type 0} where
-  -- a call that uses neither channel: a link that it leaves changed if it is accepted
-  abbrev pub alone : LinkState T → Result (X × LinkState T) LinkRefusal → Effect T X
-  alone link gives = record { answer = answer_of gives; after = after_of link gives; to_hut = []; back = [] }
-
-  -- a call that uses a channel is turned down first where the link is not joined
-  abbrev pub if_joined : Option ℕ → LinkState T → Effect T X → Effect T X
-  if_joined None link effect = alone link (Err NotJoined)
-  if_joined (Some repeats) link effect = effect
+-- a call that uses neither channel, and leaves the link changed only if it is accepted
+abbrev pub alone : {T X : Type 0} → LinkState T → Result (X × LinkState T) LinkRefusal → Effect T X
+alone link gives = record { answer = answer_of gives; after = after_of link gives; to_hut = []; back = [] }
 
 -- what a channel answers to a poll: EMPTY where nothing waits, or else what it chooses for the oldest frame
 abbrev pub polled : {T : Type 0} → Heard → List (Frame T) → Poll T
@@ -42,3 +37,8 @@ heard_of poll.Empty = Err NothingWaits
 heard_of poll.Still = Ok Still
 heard_of (poll.Arrived frame) = Ok Arrived
 heard_of poll.Lost = Ok Lost
+
+-- the poll of a call with this answer of the channel, unless the call is turned down before it polls
+abbrev pub polls : {T : Type 0} → Result (Poll T) LinkRefusal → List (Used T)
+polls (Ok answer) = used.Poll answer ∷ []
+polls (Err why) = []

@@ -1,5 +1,5 @@
 -- What is true of every history: of each message, what the hut is told, its word, and when it is not OK; and of the outcome.
-use Rattle.std.specs.Prelude.{◌≡◌, ◌≢◌, ◌↔◌, ℕ, ◌+◌, ◌<◌, ◌≤◌, Bool, true, false, ◌||◌, if◌then◌else◌, IsTrue, List, [], ◌∷◌, ◌++◌, take, length, Ok, Err, Result, Some, None, Option, IfSome, All, ◌==◌}
+use Rattle.std.specs.Prelude.{◌≡◌, ◌↔◌, ℕ, ◌+◌, ◌<◌, ◌≤◌, Bool, true, false, ◌||◌, if◌then◌else◌, IsFalse, List, [], ◌∷◌, ◌++◌, take, length, Ok, Err, Result, Some, None, Option, IfSome, All, ◌==◌}
 use Rattle.std.specs.List.{list_any, last_or}
 use Rattle.link.specs.declared.events.Event.{Event}
 use Rattle.link.specs.declared.refusals.LinkRefusal.{LinkRefusal}
@@ -37,8 +37,8 @@ pub record IsTruthful {T : Type 0} (repeats : ℕ) (loads : List T) (turns : Lis
   pub in_order : told_in turns ≡ take (length (told_in turns)) (positioned true loads)
   -- its word, if it has one, fits what was told
   pub word_fits : IfSome (said turns) (λ word. WordFits word (length loads) (length (told_in turns)))
-  -- and is another than OK exactly if the message failed
-  pub failure : IfSome (said turns) (λ said. (said ≢ word.Ok) ↔ IsTrue (has_failed repeats (length loads) turns))
+  -- and is OK exactly if the message did not fail
+  pub failure : IfSome (said turns) (λ said. (said ≡ word.Ok) ↔ IsFalse (has_failed repeats (length loads) turns))
 
 -- the outcome of a message, if it has a word: the word, and how many of its loads were told
 abbrev pub message_outcome : Option Word → ℕ → Result (Word × ℕ) LinkRefusal

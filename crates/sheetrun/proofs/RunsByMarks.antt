@@ -1,10 +1,9 @@
 -- Calls on a link over two rains are decided by the marks.
-use Rattle.std.proofs.Common.{◌≡◌, ℕ, List, [], ◌∷◌, map, Result, Some, None, Option, refl, ap, ◌∙◌}
+use Rattle.std.proofs.Common.{◌≡◌, ℕ, List, [], ◌∷◌, map, Ok, Err, Result, refl, ap, ◌∙◌}
 use Rattle.loads.specs.declared.frames.Frame.{Frame}
 use Rattle.loads.specs.declared.empties.EmptyLoad.{EmptyLoad}
 use Rattle.channel.specs.declared.polls.Poll.{Poll}
 use Rattle.channel.specs.declared.rows.Used.{Used}
-use Rattle.channel.specs.declared.rows.Used.TheVariants as used
 use Rattle.channel.specs.declared.rules.Channel.{Ghosts}
 use Rattle.channel.specs.Rows.{RowLeads}
 use Rattle.channels.specs.Rains.{RainState, rains}
@@ -16,11 +15,12 @@ use Rattle.link.specs.declared.events.Answer.TheVariants.{Polled}
 use Rattle.link.specs.declared.events.Event.{Event}
 use Rattle.link.specs.declared.refusals.LinkRefusal.{LinkRefusal}
 use Rattle.link.specs.declared.words.Heard.{Heard}
-use Rattle.link.specs.Calls.{showing, made, carried, returned}
-use Rattle.link.specs.Effects.{Effect, if_joined, polled}
+use Rattle.link.specs.Calls.{joined, showing, made, carried, returned}
+use Rattle.link.specs.Changes.{◌>>=◌}
+use Rattle.link.specs.Effects.{Effect, polled, polls}
 use Rattle.link.specs.Histories.{choice}
 use Rattle.link.specs.Runs.{Steps, Runs, call_of}
-use Rattle.link.specs.States.{LinkState, LinkParts, plain}
+use Rattle.link.specs.States.{LinkParts, plain}
 use Rattle.sheetrun.specs.CallsByMarks.{MarkedLink, heard_by_mark, heard_by, marked_after, call_by_marks, logged, calls_by_marks, marked_link_of}
 use Rattle.sheetrun.proofs.RainsByMarks.{row_marks, polled_marked}
 
@@ -29,15 +29,16 @@ abbrev called : {T : Type 0} → Call → MarkedLink T → Effect T (Answer T) �
 called call before effect = (record { call = call; answer = effect.answer }, marked_after before effect)
 
 -- a carry and a return hear what the marks say, if the link is joined: `side` is how it uses the channel that it polls
-polled_alike : {T X C : Type 0} (waits : C → List (Frame X)) (side : Effect T Heard → List (Used X)) (by : Poll X → Effect T Heard)
-    → ((answer : Poll X) → side (by answer) ≡ used.Poll answer ∷ [])
-    → (link : LinkState T) (repeats : Option ℕ) (heard : Heard) (before after : RainState C)
-    → RowLeads (rains (singles waits)) before (side (if_joined repeats link (by (polled heard (waits before.below))))) after
-    → if_joined repeats link (by (polled heard (waits before.below)))
-    ≡ if_joined repeats link (by (polled (heard_by_mark before.mark) (waits before.below)))
-polled_alike waits side by uses link None heard before after row = refl
-polled_alike waits side by uses link (Some repeats) heard before after row =
-    ap by (polled_marked waits (waits before.below) heard before after refl (rw (uses (polled heard (waits before.below))) at row))
+polled_alike : {T X C : Type 0} (waits : C → List (Frame X)) (side : Effect T Heard → List (Used X))
+    (by : Result (Poll X) LinkRefusal → Effect T Heard) → ((answer : Result (Poll X) LinkRefusal) → side (by answer) ≡ polls answer)
+    → (joined : Result ℕ LinkRefusal) (heard : Heard) (before after : RainState C)
+    → RowLeads (rains (singles waits)) before (side (by (joined >>= λ _. Ok (polled heard (waits before.below))))) after
+    → by (joined >>= λ _. Ok (polled heard (waits before.below)))
+    ≡ by (joined >>= λ _. Ok (polled (heard_by_mark before.mark) (waits before.below)))
+polled_alike waits side by uses (Err why) heard before after row = refl
+polled_alike waits side by uses (Ok repeats) heard before after row =
+    ap (λ answer. by (Ok answer))
+    (polled_marked waits (waits before.below) heard before after refl (rw (uses (Ok (polled heard (waits before.below)))) at row))
 
 module _ {T C D : Type 0} (to_hut : C → List (Frame T)) (back : D → List (Frame EmptyLoad)) (book : List T) where
   abbrev k : Ghosts (RainState C) T
@@ -53,10 +54,10 @@ module _ {T C D : Type 0} (to_hut : C → List (Frame T)) (back : D → List (Fr
       → made book heard call (plain k l before) ≡ made book (heard_by call (marked_link_of k l before)) call (plain k l before)
   alike call.Carry heard before after one other =
       let link = plain k l before in
-      ap (showing Polled) (polled_alike to_hut (λ (effect : Effect T Heard). effect.to_hut) (λ answer. carried answer link) (λ answer. refl) link before.repeats heard before.to_hut after.to_hut one)
+      ap (showing Polled) (polled_alike to_hut (λ (effect : Effect T Heard). effect.to_hut) (λ answer. carried answer link) (λ answer. refl) (joined link) heard before.to_hut after.to_hut one)
   alike call.Return heard before after one other =
       let link = plain k l before in
-      ap (showing Polled) (polled_alike back (λ (effect : Effect T Heard). effect.back) (λ answer. returned answer link) (λ answer. refl) link before.repeats heard before.back after.back other)
+      ap (showing Polled) (polled_alike back (λ (effect : Effect T Heard). effect.back) (λ answer. returned answer link) (λ answer. refl) (joined link) heard before.back after.back other)
   alike call heard before after one other = refl
 
   -- one call
