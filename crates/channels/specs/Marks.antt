@@ -1,5 +1,5 @@
 -- The marks of a rain, as octets and in the order in which frames take them.
-use Rattle.std.specs.Prelude.{◌≡◌, ℕ, Bool, true, if◌then◌else◌, ◌&&◌, List, [], ◌∷◌, map, length, Ok, Err, Result, Some, None, Option, ◌==◌, nat_le}
+use Rattle.std.specs.Prelude.{⊤, ◌≡◌, ℕ, Bool, true, if◌then◌else◌, ◌&&◌, List, [], ◌∷◌, map, length, Ok, Err, Result, Some, None, Option, ◌==◌, nat_le}
 use Rattle.std.specs.List.{list_all}
 use Rattle.channels.specs.declared.marks.Mark.{Mark}
 use Rattle.channels.specs.declared.marks.Mark.TheVariants.{Pass, Lose, Delay}
@@ -58,7 +58,7 @@ abbrev pub marks_left : Source → List Mark
 marks_left (source.Octets octets) = marks_of octets.now
 marks_left (source.Marks marks) = marks.now
 
--- a source has marks alone
-abbrev pub HasMarks : Source → Type 0
-HasMarks (source.Octets octets) = known octets.now ≡ true
-HasMarks (source.Marks marks) = Unit {0}
+-- each octet of a source is a mark
+abbrev pub IsOfMarks : Source → Type 0
+IsOfMarks (source.Octets octets) = known octets.now ≡ true
+IsOfMarks (source.Marks marks) = ⊤

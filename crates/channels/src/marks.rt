@@ -1,7 +1,7 @@
 //! The marks by which a rain treats frames: as values, or as the octets that they are read from.
 ghost use Rattle.std.specs.Prelude.{◌≡◌, List};
 ghost use Rattle.channels.specs.declared.marks.Mark.{Mark};
-ghost use Rattle.channels.specs.Marks.{mark_read, good_marks, marks_read, marks_kept, next_mark, later_marks, marks_left, HasMarks};
+ghost use Rattle.channels.specs.Marks.{mark_read, good_marks, marks_read, marks_kept, next_mark, later_marks, marks_left, IsOfMarks};
 
 use std::marker::Model;
 
@@ -64,7 +64,7 @@ impl<'m> Model for Marks<'m> {
 
     ghost view = { λ marks. marks_left marks.source };
 
-    ghost invariant = { λ marks. HasMarks marks.source };
+    ghost invariant = { λ marks. IsOfMarks marks.source };
 }
 
 impl<'m> Marks<'m> {

@@ -28,6 +28,7 @@ impl<'m, C> Model for Rain<'m, C> {
 /// A mark is above 2, or there is a 65th. The channel that was to be below comes back.
 #[derive(Drop)]
 pub struct BadMarks<C> {
+    /// The channel that was to be below.
     pub below: C,
 }
 

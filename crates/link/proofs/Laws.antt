@@ -8,8 +8,8 @@ use Rattle.link.specs.declared.refusals.LinkRefusal.{LinkRefusal}
 use Rattle.link.specs.declared.words.Word.{Word}
 use Rattle.link.specs.Calls.{outcome}
 use Rattle.link.specs.Histories.{EventLeads, EventsLead, HistoryLeads}
-use Rattle.link.specs.Laws.{StaysLawful, outcome_of}
-use Rattle.link.specs.Runs.{Steps, Runs}
+use Rattle.link.specs.Laws.{outcome_of}
+use Rattle.link.specs.Runs.{Steps, Runs, StaysLawful}
 use Rattle.link.specs.States.{LinkState, LinkParts, plain, started}
 use Rattle.link.proofs.Moves.{history_lawful, history_outcome}
 use Rattle.link.proofs.RunLaws.{lead_on, runs_lead}

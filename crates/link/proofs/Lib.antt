@@ -1,7 +1,7 @@
-pub mod Laws
-pub mod Moves
-pub mod Phases
 pub mod RestLaws
-pub mod RunLaws
-pub mod Tallies
 pub mod Watches
+pub mod Tallies
+pub mod Phases
+pub mod Moves
+pub mod RunLaws
+pub mod Laws

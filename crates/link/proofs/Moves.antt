@@ -25,7 +25,7 @@ use Rattle.link.specs.States.{SenderState, LinkState, started}
 use Rattle.link.specs.Turns.{Turn, turn, turns, asks, tells, ends}
 use Rattle.link.proofs.Watches.{Watch, fresh, advance, Right, Rightly, positioned_length, rightly_truthful}
 use Rattle.link.proofs.Tallies.{tally, tally_right, last_is}
-use Rattle.link.proofs.Phases.{link_at, sender_at, hut_at, watch, left_of, Rest, none, next, Sync, loose, level_on, level_off, ahead_on, ahead_off, Timed, untimed, timed, Tried, unsent, tried, Message, closed, opened, Phase, idle, ready, going, hearing, telling, again, coming, missing, over, failed, apart, parting, breaking}
+use Rattle.link.proofs.Phases.{link_at, sender_at, hut_at, watch, left_of, Rest, none, next, Sync, loose, level_on, level_off, ahead_on, ahead_off, Timed, untimed, timed, Tried, unsent, tried, Opening, closed, opened, Phase, idle, ready, going, hearing, telling, again, coming, missing, over, failed, apart, parting, breaking}
 
 -- what was sent once was tried
 sent_once : (tries : ℕ) → (suc tries == 0) ≡ false
@@ -74,7 +74,7 @@ module _ {T : Type 0} (book : List T) (repeats : ℕ) (small : repeats ≤ 10) w
 
   -- a message of which nothing was sent may be sent
   begun : {toggle fresh strict timer expected : Bool} {rest : List ℕ} {held : Option (Frame T)} {told : ℕ} {word : Option Word} {w : Watch T}
-      → Message book true rest w → Sync strict expected toggle false → Timed strict timer
+      → Opening book true rest w → Sync strict expected toggle false → Timed strict timer
       → Phase book repeats (link_at book repeats (sender_at ToSend true true false false toggle rest 0) (hut_at AwaitsFrame fresh strict timer false expected held) told word [] []) w
   begun (opened load rest) sync on = ready load rest sync on unsent refl (omega arith)
 
@@ -95,14 +95,14 @@ module _ {T : Type 0} (book : List T) (repeats : ℕ) (small : repeats ≤ 10) w
       let found = load_at book start (omega (fits, arith)) in
       rw (found.2, add-one) (next found.1 (chosen (suc start) count (omega (fits, arith))))
 
-  opening : {place : ℕ} {places : List ℕ} {loads : List T} → Rest book (place ∷ places) loads → Message book true (place ∷ places) (fresh loads)
+  opening : {place : ℕ} {places : List ℕ} {loads : List T} → Rest book (place ∷ places) loads → Opening book true (place ∷ places) (fresh loads)
   opening (next load rest) = opened load rest
 
   -- a request on a link with no message open, by its two tests
   asked : (link : LinkState T) (after : SenderState) (w : Watch T) (start count : ℕ) (bad beyond : Bool)
       → (count == 0 || nat_lt 4096 count) ≡ bad → nat_lt (length book) (start + count) ≡ beyond
       → w.«open» ≡ false → Phase book repeats link w
-      → (Message book true (range_with_len start count) (fresh (take count (drop start book)))
+      → (Opening book true (range_with_len start count) (fresh (take count (drop start book)))
       → Phase book repeats (record link { sender = after; told = 0 }) (fresh (take count (drop start book))))
       → outcome (record link { sender = after; told = 0 }) ≡ Err StillOpen
       → Next link w (call.Request start count) (showing (λ _. Done) (alone {X = Unit {0}} link
@@ -152,6 +152,7 @@ module _ {T : Type 0} (book : List T) (repeats : ℕ) (small : repeats ≤ 10) w
   moves call.Break heard (breaking message) stay = (tt, parting message, (refl, refl))
   moves call.Meet heard (parting (closed shut)) stay = (tt, idle shut loose untimed, (refl, refl))
   moves call.Meet heard (parting (opened load rest)) stay = (tt, begun (opened load rest) loose untimed, (refl, refl))
+  -- one phase by itself, so that the last line is taken phase by phase
   moves call heard (idle _ _ _) stay = (tt, stay, (refl, refl))
   moves call heard phase stay = (tt, stay, (refl, refl))
 

@@ -71,10 +71,10 @@ hut_at place fresh strict timer quiet expected held = record {
 }
 
 -- a message that is closed, or open with nothing of it sent
-pub data Message {T : Type 0} (book : List T) : Bool → List ℕ → Watch T → Type 0 where
-  closed : {w : Watch T} → w.«open» ≡ false → Message book false [] w
+pub data Opening {T : Type 0} (book : List T) : Bool → List ℕ → Watch T → Type 0 where
+  closed : {w : Watch T} → w.«open» ≡ false → Opening book false [] w
   opened : {place : ℕ} {places : List ℕ} {load : T} {loads : List T} → slice_get book place ≡ Some load → Rest book places loads
-      → Message book true (place ∷ places) (watch (positioned true (load ∷ loads)) (suc (length loads)) 0 false)
+      → Opening book true (place ∷ places) (watch (positioned true (load ∷ loads)) (suc (length loads)) 0 false)
 
 module _ {T : Type 0} (book : List T) (repeats : ℕ) where
   abbrev pub link_at : SenderState → HutState T → ℕ → Option Word → List (Frame T) → List (Frame EmptyLoad) → LinkState T
@@ -140,11 +140,11 @@ module _ {T : Type 0} (book : List T) (repeats : ℕ) where
         → Phase (link_at (sender_at ToConfirm true first false false toggle (place ∷ places) tries) (hut_at AwaitsFrame fresh strict timer false expected held) told word [] [])
         (watch (left_of ahead first (load ∷ loads)) (suc (length loads)) loss given)
     apart : {busy first toggle fresh strict timer expected : Bool} {rest : List ℕ} {held : Option (Frame T)} {told : ℕ} {word : Option Word} {w : Watch T}
-        → Message book busy rest w → Timed strict timer
+        → Opening book busy rest w → Timed strict timer
         → Phase (link_at (sender_at ToPart busy first false false toggle rest 0) (hut_at AwaitsFrame fresh strict timer false expected held) told word [] []) w
     parting : {busy toggle fresh timer expected : Bool} {rest : List ℕ} {held : Option (Frame T)} {told : ℕ} {word : Option Word} {w : Watch T}
-        → Message book busy rest w
+        → Opening book busy rest w
         → Phase (link_at (sender_at ToMeet busy true false false toggle rest 0) (hut_at AwaitsFrame fresh false timer true expected held) told word [] []) w
     breaking : {busy toggle fresh expected : Bool} {rest : List ℕ} {held : Option (Frame T)} {told : ℕ} {word : Option Word} {w : Watch T}
-        → Message book busy rest w
+        → Opening book busy rest w
         → Phase (link_at (sender_at ToMeet busy true false false toggle rest 0) (hut_at ToTellBreak fresh false false true expected held) told word [] []) w

@@ -8,7 +8,7 @@ use Rattle.link.specs.declared.words.Position.{Position}
 use Rattle.link.specs.declared.words.Word.{Word}
 use Rattle.link.specs.declared.words.Word.TheVariants as word
 use Rattle.link.specs.Turns.{Loss, Turn, asks, tells, replied, loses, gives_up, ends}
-use Rattle.link.specs.Messages.{up_to_word, messages, loads_of, told_in, said, abandoned, is_reply, is_loss, losses}
+use Rattle.link.specs.Messages.{up_to_word, messages, loads_of, told_in, said, is_abandoned, is_reply, is_loss, losses}
 use Rattle.link.specs.Laws.{positioned, WordFits, IsTruthful}
 
 -- of the message that is open: what is still to be told, how many of its loads have no reply, the losses of the first of
@@ -121,7 +121,7 @@ module _ {T : Type 0} where
     pub in_order : told_in turns ≡ take (length (told_in turns)) w.left
     pub word_fits : IfSome (said turns) (λ word. WordFits word (length w.left) (length (told_in turns)))
     pub failure : IfSome (said turns) (λ said. (said ≡ word.Ok)
-        ↔ IsFalse ((w.given || abandoned turns) || over repeats w.loss w.count turns))
+        ↔ IsFalse ((w.given || is_abandoned turns) || over repeats w.loss w.count turns))
 
   failing : (repeats loss count : ℕ) (given : Bool) (word : Word) (turns : List (Turn T)) → turns ≡ ends word ∷ [] → 0 < count
       → (given || (loss == repeats + 1)) ≡ true → ((given || false) || over repeats loss count turns) ≡ true
@@ -179,7 +179,7 @@ module _ {T : Type 0} where
 
   -- a turn that says nothing of what the law speaks of
   said_other : (repeats : ℕ) (w : Watch T) (turn : Turn T) (turns : List (Turn T)) → is_reply turn ≡ false → is_loss turn ≡ false
-      → told_in (turn ∷ turns) ≡ told_in turns → said (turn ∷ turns) ≡ said turns → abandoned (turn ∷ turns) ≡ abandoned turns
+      → told_in (turn ∷ turns) ≡ told_in turns → said (turn ∷ turns) ≡ said turns → is_abandoned (turn ∷ turns) ≡ is_abandoned turns
       → Said repeats w turns → Said repeats w (turn ∷ turns)
   said_other repeats w turn turns waits kept told word gave rest = record {
     in_order = rw told rest.in_order;

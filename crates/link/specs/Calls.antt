@@ -54,7 +54,7 @@ module _ {T : Type 0} where
   send book link = sent (offers link.sender link.to_hut (joined link >>= λ _. sender.send book link.sender)) link
 
   -- carry, by what channel K answers, unless it is turned down before: a frame that arrives reaches the hut, and of a lost one
-  -- the sender is told
+  -- the sender hears
   abbrev pub frame_polled : Result (Poll T) LinkRefusal → LinkState T → LinkState T
   frame_polled (Ok (poll.Arrived frame)) link = record link { hut = hut.arrived link.hut frame; to_hut = drop 1 link.to_hut }
   frame_polled (Ok poll.Lost) link = record link { sender = sender.missed link.sender; to_hut = drop 1 link.to_hut }
@@ -91,7 +91,7 @@ module _ {T : Type 0} where
   abbrev pub reply : LinkState T → Effect T (Unit {0})
   reply link = replied (offers link.hut link.back (joined link >>= λ _. hut.reply link.hut)) link
 
-  -- return, by what channel L answers, unless it is turned down before: the sender is told of a reply that arrives, whose bits
+  -- return, by what channel L answers, unless it is turned down before: the sender hears of a reply that arrives, whose bits
   -- are not looked at, and of a lost one
   abbrev pub reply_polled : Result (Poll EmptyLoad) LinkRefusal → LinkState T → LinkState T
   reply_polled (Ok (poll.Arrived reply)) link = record link { sender = sender.replied link.sender; back = drop 1 link.back }

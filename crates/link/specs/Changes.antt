@@ -16,13 +16,17 @@ abbrev pub ◌>>=◌ : {A B : Type 0} → Result A LinkRefusal → (A → Result
 Ok x >>= step = step x
 Err why >>= step = Err why
 
--- the answer of a call that gives this: what it shows, or why it is turned down
-abbrev pub answer_of : {X S : Type 0} → Result (X × S) LinkRefusal → Result X LinkRefusal
+-- what an accepted call answers and what it leaves, or why the call is turned down
+abbrev pub Change : Type 0 → Type 0 → Type 0
+Change S X = Result (X × S) LinkRefusal
+
+-- the answer of such a call
+abbrev pub answer_of : {X S : Type 0} → Change S X → Result X LinkRefusal
 answer_of (Ok (answer, after)) = Ok answer
 answer_of (Err why) = Err why
 
 -- what it leaves: a call that is turned down leaves all as it was
-abbrev pub after_of : {X S : Type 0} → S → Result (X × S) LinkRefusal → S
+abbrev pub after_of : {X S : Type 0} → S → Change S X → S
 after_of before (Ok (answer, after)) = after
 after_of before (Err why) = before
 
@@ -34,7 +38,7 @@ pub record PutEffect (S T : Type 0) : Type 0 where
   pub puts : List (Used T)
 
 -- an end offers a frame to its channel, and is as given after an accepted put; where a frame waits, the put is refused
-abbrev pub offers : {S T : Type 0} → S → List (Frame T) → Result (Frame T × S) LinkRefusal → PutEffect S T
+abbrev pub offers : {S T : Type 0} → S → List (Frame T) → Change S (Frame T) → PutEffect S T
 offers before waiting (Err why) = record { answer = Err why; after = before; waiting = waiting; puts = [] }
 offers before [] (Ok (frame, after)) = record {
   answer = Ok tt;

@@ -10,7 +10,7 @@ use Rattle.link.specs.declared.refusals.LinkRefusal.{LinkRefusal}
 use Rattle.link.specs.declared.refusals.LinkRefusal.TheVariants.{NothingWaits}
 use Rattle.link.specs.declared.words.Heard.{Heard}
 use Rattle.link.specs.declared.words.Heard.TheVariants.{Still, Arrived, Lost}
-use Rattle.link.specs.Changes.{answer_of, after_of}
+use Rattle.link.specs.Changes.{Change, answer_of, after_of}
 use Rattle.link.specs.States.{LinkState}
 
 -- `to_hut` and `back` are the uses of channel K and of channel L, in order
@@ -21,7 +21,7 @@ pub record Effect (T X : Type 0) : Type 0 where
   pub back : List (Used EmptyLoad)
 
 -- a call that uses neither channel, and leaves the link changed only if it is accepted
-abbrev pub alone : {T X : Type 0} → LinkState T → Result (X × LinkState T) LinkRefusal → Effect T X
+abbrev pub alone : {T X : Type 0} → LinkState T → Change (LinkState T) X → Effect T X
 alone link gives = record { answer = answer_of gives; after = after_of link gives; to_hut = []; back = [] }
 
 -- what a channel answers to a poll: EMPTY where nothing waits, or else what it chooses for the oldest frame

@@ -11,17 +11,13 @@ use Rattle.link.specs.declared.places.HutEvent.{HutEvent}
 use Rattle.link.specs.declared.places.HutEvent.TheVariants.{Arrive, Tell, Reply, Break, Meet}
 use Rattle.link.specs.declared.refusals.LinkRefusal.{LinkRefusal}
 use Rattle.link.specs.declared.refusals.LinkRefusal.TheVariants.{NotDue}
-use Rattle.link.specs.Changes.{next_if, ◌>>=◌, after_of}
+use Rattle.link.specs.Changes.{Change, next_if, ◌>>=◌, after_of}
 use Rattle.link.specs.States.{HutState}
 
 -- whether a reply from this place starts the timer: from SA, and not from RTS
 abbrev pub starts_timer : HutPlace → Bool
 starts_timer ToReply = true
 starts_timer place = false
-
--- what an accepted call answers and the end after it; or why the call is turned down
-abbrev pub HutGives : Type 0 → Type 0 → Type 0
-HutGives T X = Result (X × HutState T) LinkRefusal
 
 module _ {T : Type 0} where
   -- the position of a frame's load in its message
@@ -50,7 +46,7 @@ module _ {T : Type 0} where
   is_repeat hut frame = hut.strict && not (beq frame.toggle hut.expected)
 
   -- a frame arrives: it is held where one is awaited; a new one is to be told, and a repeat to be replied to again
-  abbrev pub arrive : HutState T → Frame T → HutGives T (Unit {0})
+  abbrev pub arrive : HutState T → Frame T → Change (HutState T) (Unit {0})
   arrive hut frame = do
     place ← next_place hut.place Arrive hut
     Ok (
@@ -65,7 +61,7 @@ module _ {T : Type 0} where
   arrived hut frame = after_of hut (arrive hut frame)
 
   -- tell; an end at this place holds a frame
-  abbrev pub tell : HutState T → HutGives T (Position × T)
+  abbrev pub tell : HutState T → Change (HutState T) (Position × T)
   tell hut = do
     place ← next_place hut.place Tell hut
     frame ← ok_or hut.held NotDue
@@ -75,7 +71,7 @@ module _ {T : Type 0} where
     )
 
   -- reply: the frame that is put, and the end after an accepted put; an end at these places holds a frame
-  abbrev pub reply : HutState T → HutGives T (Frame EmptyLoad)
+  abbrev pub reply : HutState T → Change (HutState T) (Frame EmptyLoad)
   reply hut = do
     place ← next_place hut.place Reply hut
     frame ← ok_or hut.held NotDue
@@ -89,13 +85,13 @@ module _ {T : Type 0} where
       else record hut { place = ToTellBreak; strict = false; timer = false; quiet = true }
 
   -- break
-  abbrev pub tell_break : HutState T → HutGives T (Unit {0})
+  abbrev pub tell_break : HutState T → Change (HutState T) (Unit {0})
   tell_break hut = do
     place ← next_place hut.place Break hut
     Ok (tt, record hut { place = place; fresh = true; timer = true })
 
   -- meet
-  abbrev pub meet : HutState T → HutGives T (Unit {0})
+  abbrev pub meet : HutState T → Change (HutState T) (Unit {0})
   meet hut = do
     place ← next_place hut.place Meet hut
     Ok (tt, record hut { place = place; quiet = false })

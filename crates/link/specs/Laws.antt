@@ -1,5 +1,5 @@
 -- What is true of every history: of each message, what the hut is told, its word, and when it is not OK; and of the outcome.
-use Rattle.std.specs.Prelude.{◌≡◌, ◌↔◌, ℕ, ◌+◌, ◌<◌, ◌≤◌, Bool, true, false, ◌||◌, if◌then◌else◌, IsFalse, List, [], ◌∷◌, ◌++◌, take, length, Ok, Err, Result, Some, None, Option, IfSome, All, ◌==◌}
+use Rattle.std.specs.Prelude.{◌≡◌, ◌↔◌, ℕ, ◌+◌, ◌<◌, ◌≤◌, Bool, true, false, ◌||◌, if◌then◌else◌, IsFalse, List, [], ◌∷◌, take, length, Ok, Err, Result, Some, None, Option, IfSome, All, ◌==◌}
 use Rattle.std.specs.List.{list_any, last_or}
 use Rattle.link.specs.declared.events.Event.{Event}
 use Rattle.link.specs.declared.refusals.LinkRefusal.{LinkRefusal}
@@ -8,9 +8,7 @@ use Rattle.link.specs.declared.words.Position.{Position}
 use Rattle.link.specs.declared.words.Position.TheVariants as position
 use Rattle.link.specs.declared.words.Word.{Word}
 use Rattle.link.specs.declared.words.Word.TheVariants as word
-use Rattle.link.specs.Histories.{HistoryLeads}
-use Rattle.link.specs.Messages.{Message, messages, loads_of, told_in, said, abandoned, losses}
-use Rattle.link.specs.States.{LinkState}
+use Rattle.link.specs.Messages.{Message, messages, loads_of, told_in, said, is_abandoned, losses}
 use Rattle.link.specs.Turns.{Turn, turns}
 
 -- the loads of a message with their positions: OK for the last, else FIRST for the first, else INCOMPLETE. `first` is whether
@@ -27,9 +25,9 @@ WordFits word.Ok loads told = told ≡ loads
 WordFits word.NotOk loads told = told < loads
 WordFits word.DontKnow loads told = loads ≤ told + 1
 
--- whether a message of so many loads was abandoned, or one of its loads met one loss more than the repeats
+-- whether a message of so many loads was is_abandoned, or one of its loads met one loss more than the repeats
 abbrev pub has_failed : {T : Type 0} → ℕ → ℕ → List (Turn T) → Bool
-has_failed repeats count turns = abandoned turns || list_any (λ lost. lost == repeats + 1) (take count (losses turns))
+has_failed repeats count turns = is_abandoned turns || list_any (λ lost. lost == repeats + 1) (take count (losses turns))
 
 -- the law of a message, by its loads and what belongs to it
 pub record IsTruthful {T : Type 0} (repeats : ℕ) (loads : List T) (turns : List (Turn T)) : Type 0 where
@@ -50,12 +48,6 @@ module _ {T : Type 0} where
   abbrev pub IsLawful : List T → ℕ → List (Event T) → Type 0
   IsLawful book repeats history =
       All (λ message. IsTruthful repeats (loads_of book message) message.turns) (messages (turns history))
-
-  -- every history that leads to the link before goes on with these events to the link after, and the law holds of it
-  abbrev pub StaysLawful : List T → LinkState T → List (Event T) → LinkState T → Type 0
-  StaysLawful book before events after =
-      (repeats : ℕ) (history : List (Event T)) → HistoryLeads book repeats history before
-      → HistoryLeads book repeats (history ++ events) after × IsLawful book repeats (history ++ events)
 
   -- the outcome of a history: that of its last message
   abbrev pub last_outcome : Option (Message T) → Result (Word × ℕ) LinkRefusal

@@ -3,12 +3,12 @@ pub mod Changes
 pub mod Senders
 pub mod Huts
 pub mod Effects
+pub mod Timers
 pub mod Calls
 pub mod Histories
 pub mod Turns
 pub mod Messages
 pub mod Laws
 pub mod Runs
-pub mod Timers
 pub mod Refusals
 pub mod Words

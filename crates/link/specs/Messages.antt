@@ -50,8 +50,8 @@ module _ {T : Type 0} where
   is_abandon gives_up = true
   is_abandon turn = false
 
-  abbrev pub abandoned : List (Turn T) → Bool
-  abandoned turns = list_any is_abandon turns
+  abbrev pub is_abandoned : List (Turn T) → Bool
+  is_abandoned turns = list_any is_abandon turns
 
   -- the losses of each of its loads: those before the first reply, those between that and the second, and so on
   abbrev pub is_reply : Turn T → Bool

@@ -10,7 +10,7 @@ use Rattle.link.specs.declared.refusals.LinkRefusal.{LinkRefusal}
 use Rattle.link.specs.declared.refusals.LinkRefusal.TheVariants.{MessageOpen, BadCount, BeyondBook, NotDue, NoLoad}
 use Rattle.link.specs.declared.words.Word.{Word}
 use Rattle.link.specs.declared.words.Word.TheVariants as word
-use Rattle.link.specs.Changes.{next_if, ◌>>=◌}
+use Rattle.link.specs.Changes.{Change, next_if, ◌>>=◌}
 use Rattle.link.specs.States.{SenderState}
 
 -- whether no place is left
@@ -40,12 +40,8 @@ next_place place event sender = Err NotDue
 abbrev pub most_loads : ℕ
 most_loads = 4096
 
--- what an accepted call answers and the sender after it; or why the call is turned down
-abbrev pub SenderGives : Type 0 → Type 0
-SenderGives X = Result (X × SenderState) LinkRefusal
-
 -- request: `loads` is how many the book has
-abbrev pub request : ℕ → ℕ → ℕ → SenderState → SenderGives (Unit {0})
+abbrev pub request : ℕ → ℕ → ℕ → SenderState → Change SenderState (Unit {0})
 request loads start count sender =
     if sender.«open» then Err MessageOpen
     else if count == 0 || nat_lt most_loads count then Err BadCount
@@ -62,7 +58,7 @@ abbrev pub frame_of : {T : Type 0} → SenderState → T → Frame T
 frame_of sender load = record { first = sender.first; last = is_lone sender.rest; toggle = sender.toggle; load = load }
 
 -- send: the frame that is put, and the sender after an accepted put
-abbrev pub send : {T : Type 0} → List T → SenderState → SenderGives (Frame T)
+abbrev pub send : {T : Type 0} → List T → SenderState → Change SenderState (Frame T)
 send book sender = do
   place ← next_place sender.place Send sender
   load ← ok_or (first_load book sender.rest) NoLoad
@@ -87,13 +83,13 @@ replied sender =
     }
 
 -- retry: where the repeats are used up, there is nothing left but to confirm
-abbrev pub retry : ℕ → SenderState → SenderGives (Unit {0})
+abbrev pub retry : ℕ → SenderState → Change SenderState (Unit {0})
 retry repeats sender = do
   place ← next_place sender.place Retry sender
   Ok (tt, record sender { place = if nat_le sender.tries repeats then place else ToConfirm; armed = false; lost = false })
 
 -- abandon
-abbrev pub abandon : SenderState → SenderGives (Unit {0})
+abbrev pub abandon : SenderState → Change SenderState (Unit {0})
 abandon sender = do
   place ← next_place sender.place Abandon sender
   Ok (tt, record sender { place = place })
@@ -106,13 +102,13 @@ word_of sender =
     else word.NotOk
 
 -- confirm
-abbrev pub confirm : SenderState → SenderGives Word
+abbrev pub confirm : SenderState → Change SenderState Word
 confirm sender = do
   place ← next_place sender.place Confirm sender
   Ok (word_of sender, record sender { place = place; «open» = false; rest = []; tries = 0 })
 
 -- part
-abbrev pub part : SenderState → SenderGives (Unit {0})
+abbrev pub part : SenderState → Change SenderState (Unit {0})
 part sender = do
   place ← next_place sender.place Part sender
   Ok (tt, record sender { place = place; first = true; toggle = not sender.toggle })

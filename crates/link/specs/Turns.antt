@@ -7,7 +7,7 @@ use Rattle.link.specs.declared.events.Answer.TheVariants.{Done, Polled, Told, Co
 use Rattle.link.specs.declared.events.Event.{Event}
 use Rattle.link.specs.declared.refusals.LinkRefusal.{LinkRefusal}
 use Rattle.link.specs.declared.words.Heard.{Heard}
-use Rattle.link.specs.declared.words.Heard.TheVariants.{Still, Arrived, Lost}
+use Rattle.link.specs.declared.words.Heard.TheVariants.{Arrived, Lost}
 use Rattle.link.specs.declared.words.Position.{Position}
 use Rattle.link.specs.declared.words.Word.{Word}
 
@@ -49,13 +49,13 @@ module _ {T : Type 0} where
   done_turn call.Break = breaks
   done_turn call.Meet = meets
 
-  -- a call that polled: of the two that do, a carry polls K and a return polls L
+  -- a call that polled: a carry polls K, and a return polls L; where the answer is STILL, nothing happened
   abbrev pub polled_turn : Call → Heard → Turn T
-  polled_turn call Still = nothing
+  polled_turn call.Carry Arrived = works
+  polled_turn call.Carry Lost = loses a_frame
   polled_turn call.Return Arrived = replied
   polled_turn call.Return Lost = loses a_reply
-  polled_turn call Arrived = works
-  polled_turn call Lost = loses a_frame
+  polled_turn call heard = nothing
 
   -- a call with its answer
   abbrev pub turn : Call → Result (Answer T) LinkRefusal → Turn T

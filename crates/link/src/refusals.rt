@@ -27,7 +27,7 @@ pub enum LinkRefusal {
     BadCount = 6,
     /// The book ends before the message.
     BeyondBook = 7,
-    /// The end's place and marks do not allow the call.
+    /// The end's place and state do not allow the call.
     NotDue = 8,
     /// The book that was given has no load at the place that is next.
     NoLoad = 9,

@@ -2,8 +2,7 @@
 ghost use Rattle.std.specs.Prelude.{◌≡◌, length, map, take};
 ghost use Rattle.link.specs.declared.events.Event.{Event};
 ghost use Rattle.link.specs.States.{plain};
-ghost use Rattle.link.specs.Laws.{StaysLawful};
-ghost use Rattle.link.specs.Runs.{Runs, run_answer, run_count, written, behind, call_of};
+ghost use Rattle.link.specs.Runs.{StaysLawful, Runs, run_answer, run_count, written, behind, call_of};
 
 use crate::calls::Call;
 use crate::events::Event;

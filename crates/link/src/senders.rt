@@ -100,10 +100,11 @@ impl Sender {
             (SenderPlace::ToSend, SenderEvent::Send) if self.open => Ok(SenderPlace::AwaitsReply),
             (SenderPlace::ToSend, SenderEvent::Abandon) if self.open => Ok(SenderPlace::ToConfirm),
             (_, SenderEvent::Retry) if self.armed && self.lost => Ok(SenderPlace::ToSend),
-            (SenderPlace::ToConfirm, SenderEvent::Confirm) if self.is_done() => Ok(
-                SenderPlace::ToSend,
-            ),
-            (SenderPlace::ToConfirm, SenderEvent::Confirm) => Ok(SenderPlace::ToPart),
+            (SenderPlace::ToConfirm, SenderEvent::Confirm) => Ok(if self.is_done() {
+                SenderPlace::ToSend
+            } else {
+                SenderPlace::ToPart
+            }),
             (SenderPlace::ToPart, SenderEvent::Part) => Ok(SenderPlace::ToMeet),
             _ => Err(LinkRefusal::NotDue),
         }

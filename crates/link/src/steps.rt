@@ -1,8 +1,7 @@
 //! One call of any kind, and its answer as a log has it.
 ghost use Rattle.std.specs.Prelude.{◌≡◌, [], ◌∷◌, OnErr};
 ghost use Rattle.link.specs.States.{plain};
-ghost use Rattle.link.specs.Laws.{StaysLawful};
-ghost use Rattle.link.specs.Runs.{Steps};
+ghost use Rattle.link.specs.Runs.{StaysLawful, Steps};
 
 use crate::calls::Call;
 use crate::events::{Answer, Event};

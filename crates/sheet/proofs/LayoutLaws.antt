@@ -54,7 +54,7 @@ module _ {T : Type 0} where
       let (parts, read, made) = then_ok (sections_read kind layout.sections) _ sheet is in
       let have = sections_have kind layout.sections parts read in
       let same : parts ≡ sheet.parts = search (rules, made) in
-      rw (← same) (
-        ap (λ lists. lists ++ trailer_of octets) (have.covers ∙ ap octets_of sections ∙ whole) ∙ take-append-drop (trailer_place octets) octets,
-        have.placed 0 (rw sections placed),
-      )
+      rw (← same) (record {
+        whole = ap (λ lists. lists ++ trailer_of octets) (have.covers ∙ ap octets_of sections ∙ whole) ∙ take-append-drop (trailer_place octets) octets;
+        in_places = have.placed 0 (rw sections placed);
+      })

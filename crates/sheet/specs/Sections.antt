@@ -88,5 +88,5 @@ module _ {T : Type 0} where
       and_then (section_reads kind section) (λ parts. before parts (sections_read kind sections))
 
   -- whether parts were read, or the refusal
-  abbrev pub outcome_of : PartsRead T → Result (Unit {0}) SheetFault
-  outcome_of read = and_then read (λ parts. Ok tt)
+  abbrev pub verdict_of : PartsRead T → Result (Unit {0}) SheetFault
+  verdict_of read = and_then read (λ parts. Ok tt)

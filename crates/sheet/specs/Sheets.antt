@@ -45,6 +45,6 @@ module _ {T : Type 0} where
       (part.place ≡ place) × AreInPlaces (place + length part.octets) parts
 
   -- nothing is skipped and nothing overlaps: the parts in order, and the trailer behind them, are the sheet
-  abbrev pub Covers : List (PartState T) → List ℕ → Type 0
-  Covers parts octets =
-      (flat_map (λ part. part.octets) parts ++ trailer_of octets ≡ octets) × AreInPlaces 0 parts
+  pub record Covers (parts : List (PartState T)) (octets : List ℕ) : Type 0 where
+    pub whole : flat_map (λ part. part.octets) parts ++ trailer_of octets ≡ octets
+    pub in_places : AreInPlaces 0 parts

@@ -15,7 +15,9 @@ use std::alloc::Global;
 /// A sheet, by the kind of its loads.
 #[derive(Drop)]
 pub enum AnySheet<'s> {
+    /// Of readings.
     Readings(Sheet<'s, Reading>),
+    /// Of pieces.
     Pieces(Sheet<'s, Piece>),
 }
 

@@ -14,7 +14,7 @@ pub enum Way {
     Back,
 }
 
-/// A record of a sheet. Its place is that of its first octet, counted from 0.
+/// A record of a sheet: its place, which is that of its first octet, counted from 0, its octets, and what they mean.
 #[derive(Clone, Copy, Debug, PartialEq, Eq)]
 pub enum Part<'s, T> {
     /// A record of the book: a load.

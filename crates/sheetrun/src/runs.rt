@@ -1,8 +1,7 @@
 //! Runs on a link over two rains, whose marks decide what is answered.
 ghost use Rattle.std.specs.Prelude.{◌≡◌, ◌<◌, List, [], length, take, IfOk, IfErr, vec_items};
 ghost use Rattle.link.specs.Histories.{HistoryLeads};
-ghost use Rattle.link.specs.Laws.{StaysLawful};
-ghost use Rattle.link.specs.Runs.{run_answer, run_count, written, behind};
+ghost use Rattle.link.specs.Runs.{StaysLawful, run_answer, run_count, written, behind};
 ghost use Rattle.sheetrun.specs.Prints.{link_at_start, events_of, IsLawfulRun};
 ghost use Rattle.sheetrun.specs.CallsByMarks.{marked_link, calls_by_marks};
 
