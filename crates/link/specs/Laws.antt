@@ -1,4 +1,4 @@
--- What is true of every history: of each message, what the hut is told, its word, and when it is not OK; and of the outcome.
+-- What is true of every history: of each message, what the hut is told, its word, and when that is OK; and of the outcome.
 use Rattle.std.specs.Prelude.{◌≡◌, ◌↔◌, ℕ, ◌+◌, ◌<◌, ◌≤◌, Bool, true, false, ◌||◌, if◌then◌else◌, IsFalse, List, [], ◌∷◌, take, length, Ok, Err, Result, Some, None, Option, IfSome, All, ◌==◌}
 use Rattle.std.specs.List.{list_any, last_or}
 use Rattle.link.specs.declared.events.Event.{Event}
@@ -25,7 +25,7 @@ WordFits word.Ok loads told = told ≡ loads
 WordFits word.NotOk loads told = told < loads
 WordFits word.DontKnow loads told = loads ≤ told + 1
 
--- whether a message of so many loads was is_abandoned, or one of its loads met one loss more than the repeats
+-- whether a message of so many loads was abandoned, or one of its loads met one loss more than the repeats
 abbrev pub has_failed : {T : Type 0} → ℕ → ℕ → List (Turn T) → Bool
 has_failed repeats count turns = is_abandoned turns || list_any (λ lost. lost == repeats + 1) (take count (losses turns))
 
