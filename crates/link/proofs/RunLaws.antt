@@ -1,9 +1,10 @@
 -- Histories and runs, one after another.
-use Rattle.std.proofs.Common.{List, [], ◌∷◌, ◌++◌, refl, ap}
+use Rattle.std.proofs.Common.{◌≡◌, List, [], ◌∷◌, ◌++◌, refl, ap, ◌∙◌}
 use Rattle.loads.specs.declared.empties.EmptyLoad.{EmptyLoad}
 use Rattle.channel.specs.declared.rules.Channel.{Ghosts}
 use Rattle.link.specs.declared.events.Event.{Event}
 use Rattle.link.specs.Histories.{EventsLead}
+use Rattle.link.specs.JoinedRuns.{left_by}
 use Rattle.link.specs.Runs.{Steps, Runs}
 use Rattle.link.specs.States.{LinkState, LinkParts, plain}
 
@@ -13,6 +14,13 @@ pub lead_on : {T : Type 0} (book : List T) (before between after : LinkState T) 
 lead_on book before between after [] more leads then = rw leads at then
 lead_on book before between after (event ∷ events) more (next, stepped, leads) then =
     (next, stepped, lead_on book next between after events more leads then)
+
+-- what a history's events leave is where they lead
+pub events_leave : {T : Type 0} (book : List T) (before after : LinkState T) (events : List (Event T)) → EventsLead book before events after
+    → after ≡ left_by book before events
+events_leave book before after [] leads = leads
+events_leave book before after (event ∷ events) (between, first, leads) =
+    events_leave book between after events leads ∙ ap (λ link. left_by book link events) first.leaves
 
 module _ {T K L : Type 0} (k : Ghosts K T) (l : Ghosts L EmptyLoad) (book : List T) where
   -- a run and then one call

@@ -10,5 +10,6 @@ pub mod Turns
 pub mod Messages
 pub mod Laws
 pub mod Runs
+pub mod JoinedRuns
 pub mod Refusals
 pub mod Words

@@ -86,14 +86,22 @@ hut_start = record {
   held = None;
 }
 
--- a link as it joined
-abbrev pub started : {T : Type 0} → ℕ → LinkState T
-started repeats = record {
+-- a link as it is made over two channels, not joined
+abbrev pub new_link : {T K L : Type 0} → K → L → LinkParts T K L
+new_link to_hut back = record {
   sender = sender_start;
   hut = hut_start;
   told = 0;
   word = None;
-  repeats = Some repeats;
-  to_hut = [];
-  back = [];
+  repeats = None;
+  to_hut = to_hut;
+  back = back;
 }
+
+-- and as it joined
+abbrev pub joined_link : {T K L : Type 0} → ℕ → K → L → LinkParts T K L
+joined_link repeats to_hut back = record (new_link to_hut back) { repeats = Some repeats }
+
+-- a link as it joined, by the frames that wait in its channels: none
+abbrev pub started : {T : Type 0} → ℕ → LinkState T
+started repeats = joined_link repeats [] []

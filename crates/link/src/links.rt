@@ -3,7 +3,7 @@ ghost use Rattle.std.specs.Prelude.{◌≡◌, ℕ, List, [], None, Ok, IsOk};
 ghost use Rattle.std.specs.Option.{ok_or};
 ghost use Rattle.link.specs.declared.refusals.LinkRefusal.TheVariants.{NotJoined};
 ghost use Rattle.loads.specs.declared.empties.EmptyLoad.{EmptyLoad};
-ghost use Rattle.link.specs.States.{LinkParts, plain, sender_start, hut_start};
+ghost use Rattle.link.specs.States.{LinkParts, plain, new_link};
 ghost use Rattle.std.specs.Result.{result_unwrap_or};
 ghost use Rattle.link.specs.Calls as rule;
 ghost use Rattle.link.specs.Calls.{event_of};
@@ -57,16 +57,7 @@ impl<T, K, L> Model for Link<T, K, L> {
 impl<T: Load, K: Channel<T>, L: Channel<EmptyLoad>> Link<T, K, L> {
     /// A link over two channels, not joined.
     pub fn new(to_hut: K, back: L) -> Link<T, K, L>
-        ensures answer { result
-            ≡ record {
-              sender = sender_start;
-              hut = hut_start;
-              told = 0;
-              word = None;
-              repeats = None;
-              to_hut = to_hut;
-              back = back;
-            } }
+        ensures answer { result ≡ new_link to_hut back }
     {
         Link {
             sender: Sender::new(),

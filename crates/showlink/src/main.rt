@@ -2,16 +2,18 @@
 
 #![tactic(auto)]
 
-ghost use Rattle.std.specs.Prelude.{◌≡◌, map, IfOk};
-ghost use Rattle.link.specs.States.{plain};
+ghost use Rattle.std.specs.Prelude.{◌≡◌, map, Ok, Err, IfOk, IfErr, MatchResult};
+ghost use Rattle.link.specs.States.{plain, new_link, joined_link, started};
+ghost use Rattle.link.specs.Calls.{join, outcome};
 ghost use Rattle.link.specs.Histories.{HistoryLeads};
-ghost use Rattle.link.specs.Laws.{IsLawful};
-ghost use Rattle.link.specs.Runs.{call_of};
+ghost use Rattle.link.specs.Laws.{IsLawful, outcome_of};
+ghost use Rattle.link.specs.Runs.{Runs, call_of};
+ghost use Rattle.link.specs.JoinedRuns.{left_by};
 ghost use Rattle.showlink.specs.Sendings.{sendings};
 
 use channel::Channel;
 use channels::{Rain, Store, Wire};
-use link::{Answer, Call, Event, Link, LinkRefusal, Word};
+use link::{Answer, Call, Event, Link, NotRun, Word};
 use linktext::{call_line, outcome_line};
 use loads::{Book, EmptyLoad, Reading};
 
@@ -50,33 +52,43 @@ const CALLS: [Call; 27] = [
     Call::Confirm,
 ];
 
-// Joins with 2 repeats and makes the calls, with an event for each. What comes is a history that leads to the link, and the law
-// holds of it.
+// Joins a new link over two channels with 2 repeats and makes the calls on it. Gives the link, and an event for each call.
+// Open: what becomes of the frames that are polled for.
 fn send_three<K: Channel<Reading>, L: Channel<EmptyLoad>>(
-    link: &mut Link<Reading, K, L>,
+    to_hut: K,
+    back: L,
     book: &Book<Reading>,
-) -> Result<[Event<Reading>; 27], LinkRefusal>
-    ensures calls { IfOk result (λ log. map call_of log ≡ sendings) }
-    ensures law { IfOk result (λ log.
-        HistoryLeads book.now 2 log (plain K.Channel L.Channel link.new)
+) -> Result<(Link<Reading, K, L>, [Event<Reading>; 27]), NotRun<K, L>>
+    ensures answer { let answer = (join 2 (plain K.Channel L.Channel
+        (new_link {T = Reading} to_hut back))).answer in
+        MatchResult result (λ _. answer ≡ Ok tt) (λ not. answer ≡ Err not.refusal) }
+    ensures refused { IfErr result (λ not. (not.to_hut ≡ to_hut) × (not.back ≡ back)) }
+    ensures calls { IfOk result (λ (link, log). map call_of log ≡ sendings) }
+    ensures open_answers { IfOk result (λ (link, log).
+        Runs K.Channel L.Channel book.now (joined_link 2 to_hut back) log link) }
+    ensures after { IfOk result (λ (link, log).
+        plain K.Channel L.Channel link ≡ left_by book.now (started 2) log) }
+    ensures law { IfOk result (λ (link, log).
+        HistoryLeads book.now 2 log (plain K.Channel L.Channel link)
         × IsLawful book.now 2 log) }
+    ensures outcome { IfOk result (λ (link, log).
+        outcome (plain K.Channel L.Channel link) ≡ outcome_of log) }
 {
-    link.join(2)?;
     // no call answers this, so an entry that no call wrote would show
     let mut log = [Event {
         call: Call::Meet,
         answer: Ok(Answer::Confirmed(Word::Ok)),
     }; 27];
-    link.run(book, &CALLS, &mut log)?;
-    Ok(log)
+    let link = Link::joined_run(to_hut, back, 2, book, &CALLS, &mut log)?;
+    Ok((link, log))
 }
 
 fn main(rt: HostRuntime) -> anyhow::Result<()> {
     let book = Book::<Reading>::read(rt.alloc(), 3, &OCTETS)?;
     let to_hut = Rain::new(Wire::new(), &[1]).unwrap();
     let back = Rain::new(Store::new(), &[0, 1]).unwrap();
-    let mut link = Link::new(to_hut, back);
-    for event in &send_three(&mut link, &book)? {
+    let (link, log) = send_three(to_hut, back, &book).map_err(|not| not.refusal)?;
+    for event in &log {
         rt.println(call_line(rt.alloc(), event)?)?;
     }
     let (word, told) = link.outcome()?;

@@ -1,15 +1,24 @@
-use Rattle.std.proofs.Common.{◌≡◌, [], take, length, take_all, arith, rules}
-use Rattle.link.specs.Histories.{HistoryLeads}
-use Rattle.link.specs.States.{plain}
+use Rattle.std.proofs.Common.{◌≡◌, length, take, take_all, arith, rules}
+use Rattle.showlink.proofs.send_three.Given as given
 use Rattle.showlink.proofs.send_three.Goals as goal
 
-pub returns : goal.returns
-returns g c =
-    let begun : HistoryLeads c.args.book.now 2 [] (plain g.K.Channel g.L.Channel c.join.new.self) = search (rules, c.in_ok-join.ensures.law) in
-    -- the log has one entry for each call
-    let size : length c.run.new.log ≡ 27 = search rules in
-    let all : take 27 c.run.new.log ≡ c.run.new.log = take_all 27 c.run.new.log (omega (size, arith)) in
-    record {
-      calls = rw all at c.in_ok-run.ensures.called;
-      law = rw all at (c.in_ok-run.ensures.law 2 [] begun);
-    }
+-- the log has one entry for each call
+whole : (g : given.Over) (c : goal.In_ok-link g) → take 27 c.joined_run.new.log ≡ c.joined_run.new.log
+whole g c =
+    let size : length c.joined_run.new.log ≡ 27 = search rules in
+    take_all 27 c.joined_run.new.log (omega (size, arith))
+
+pub returns-clause-calls : goal.returns-clause-calls
+returns-clause-calls g c = rw (whole g c) at c.in_ok-link.ensures.called
+
+pub returns-clause-open_answers : goal.returns-clause-open_answers
+returns-clause-open_answers g c = rw (whole g c) at c.in_ok-link.ensures.open_answers
+
+pub returns-clause-after : goal.returns-clause-after
+returns-clause-after g c = rw (whole g c) at c.in_ok-link.ensures.after
+
+pub returns-clause-law : goal.returns-clause-law
+returns-clause-law g c = rw (whole g c) at c.in_ok-link.ensures.law
+
+pub returns-clause-outcome : goal.returns-clause-outcome
+returns-clause-outcome g c = rw (whole g c) at c.in_ok-link.ensures.outcome
