@@ -1,5 +1,5 @@
 //! What the cases on channels share: frames, rains, and rows of uses that a channel is held against.
-use channel::{Channel, Poll, Use, Used};
+use channel::{Channel, Use, Used};
 use channels::Rain;
 use loads::{Frame, Load};
 use std::fmt::Debug;
@@ -33,30 +33,21 @@ pub fn below<'m, C: Drop>(rt: &impl Abort, channel: C, marks: &'m [u8]) -> Rain<
     rain
 }
 
-// Whether a frame waits after a use, where its answer tells: one that arrived or was lost may have others behind it.
-fn waits_after<T>(used: &Used<T>) -> Option<bool> {
-    match used {
-        Used::Put(_, _) => Some(true),
-        Used::Poll(Poll::Empty) => Some(false),
-        Used::Poll(Poll::Still) => Some(true),
-        Used::Poll(_) => None,
-    }
-}
+/// A use of a channel with its answer, and whether a frame waits then.
+pub type Seen<T> = (Used<T>, bool);
 
-/// Makes each use of a row in order. The channel must answer as the row says, and hold a frame or not.
+/// Makes each use of a row in order. The channel must answer as the row says, and then hold a frame or not.
 pub fn follow<T: Load + Debug + PartialEq, C: Channel<T>>(
     rt: &impl Abort,
     channel: &mut C,
-    row: &[Used<T>],
+    row: &[Seen<T>],
 ) {
-    for used in row {
+    for (i, (used, waits)) in row.iter().enumerate() {
         let wanted = match used {
             Used::Put(frame, _) => Use::Put(*frame),
             Used::Poll(_) => Use::Poll,
         };
-        assert_eq!(rt; wanted.make(channel), *used);
-        if let Some(waits) = waits_after(used) {
-            assert_eq!(rt; channel.holds(), waits);
-        }
+        assert_eq!(rt; wanted.make(channel), *used, "use {i}");
+        assert_eq!(rt; channel.holds(), *waits, "after use {i}");
     }
 }

@@ -1,5 +1,5 @@
 //! The hop: near and far, empty and holding.
-use crate::crossings::{below, follow, opening};
+use crate::crossings::{Seen, below, follow, opening};
 use channel::{Full, Poll, Used};
 use channels::{Hop, Store, Wire};
 use loads::{EmptyLoad, Frame, Piece, Reading};
@@ -12,14 +12,14 @@ const EMPTY: Frame<EmptyLoad> = Frame {
     load: EmptyLoad,
 };
 
-const MOVES: [Used<EmptyLoad>; 7] = [
-    Used::Poll(Poll::Empty),
-    Used::Put(EMPTY, Ok(())),
-    Used::Put(EMPTY, Err(Full)),
-    Used::Poll(Poll::Still),
-    Used::Put(EMPTY, Err(Full)),
-    Used::Poll(Poll::Arrived(EMPTY)),
-    Used::Poll(Poll::Empty),
+const MOVES: [Seen<EmptyLoad>; 7] = [
+    (Used::Poll(Poll::Empty), false),
+    (Used::Put(EMPTY, Ok(())), true),
+    (Used::Put(EMPTY, Err(Full)), true),
+    (Used::Poll(Poll::Still), true),
+    (Used::Put(EMPTY, Err(Full)), true),
+    (Used::Poll(Poll::Arrived(EMPTY)), false),
+    (Used::Poll(Poll::Empty), false),
 ];
 
 #[test]
@@ -41,21 +41,21 @@ const NEWER: Frame<Reading> = Frame {
     load: Reading { value: 2 },
 };
 
-const FAR_FIRST: [Used<Reading>; 6] = [
-    Used::Put(OLDER, Err(Full)),
-    Used::Poll(Poll::Arrived(OLDER)),
-    Used::Put(OLDER, Err(Full)),
-    Used::Poll(Poll::Still),
-    Used::Poll(Poll::Arrived(NEWER)),
-    Used::Put(OLDER, Ok(())),
+const FAR_FIRST: [Seen<Reading>; 6] = [
+    (Used::Put(OLDER, Err(Full)), true),
+    (Used::Poll(Poll::Arrived(OLDER)), true),
+    (Used::Put(OLDER, Err(Full)), true),
+    (Used::Poll(Poll::Still), true),
+    (Used::Poll(Poll::Arrived(NEWER)), false),
+    (Used::Put(OLDER, Ok(())), true),
 ];
 
 #[test]
 fn a_hop_that_holds_two_frames_gives_the_far_one_first(rt: HostRuntime) {
     let mut near = Wire::new();
     let mut far = Store::new();
-    follow(&rt, &mut near, &[Used::Put(NEWER, Ok(()))]);
-    follow(&rt, &mut far, &[Used::Put(OLDER, Ok(()))]);
+    follow(&rt, &mut near, &[(Used::Put(NEWER, Ok(())), true)]);
+    follow(&rt, &mut far, &[(Used::Put(OLDER, Ok(())), true)]);
     follow(&rt, &mut Hop::new(near, far), &FAR_FIRST);
 }
 
@@ -67,14 +67,14 @@ fn what_far_answers_is_passed_on(rt: HostRuntime) -> Result<(), Fail> {
         &rt,
         &mut Hop::new(Wire::new(), far),
         &[
-            Used::Put(frame, Ok(())),
-            Used::Poll(Poll::Still),
-            Used::Poll(Poll::Still),
-            Used::Poll(Poll::Arrived(frame)),
-            Used::Put(frame, Ok(())),
-            Used::Poll(Poll::Still),
-            Used::Poll(Poll::Lost),
-            Used::Poll(Poll::Empty),
+            (Used::Put(frame, Ok(())), true),
+            (Used::Poll(Poll::Still), true),
+            (Used::Poll(Poll::Still), true),
+            (Used::Poll(Poll::Arrived(frame)), false),
+            (Used::Put(frame, Ok(())), true),
+            (Used::Poll(Poll::Still), true),
+            (Used::Poll(Poll::Lost), false),
+            (Used::Poll(Poll::Empty), false),
         ],
     );
     Ok(())
@@ -83,12 +83,15 @@ fn what_far_answers_is_passed_on(rt: HostRuntime) -> Result<(), Fail> {
 #[test]
 fn a_hop_hands_its_channels_back(rt: HostRuntime) {
     let mut hop = Hop::new(Wire::new(), Store::new());
-    follow(&rt, &mut hop, &[Used::Put(OLDER, Ok(()))]);
+    follow(&rt, &mut hop, &[(Used::Put(OLDER, Ok(())), true)]);
     let (mut near, mut far) = hop.into_parts();
-    follow(&rt, &mut far, &[Used::Poll(Poll::Empty)]);
+    follow(&rt, &mut far, &[(Used::Poll(Poll::Empty), false)]);
     follow(
         &rt,
         &mut near,
-        &[Used::Poll(Poll::Arrived(OLDER)), Used::Poll(Poll::Empty)],
+        &[
+            (Used::Poll(Poll::Arrived(OLDER)), false),
+            (Used::Poll(Poll::Empty), false),
+        ],
     );
 }

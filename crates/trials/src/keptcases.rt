@@ -44,19 +44,27 @@ fn near_of(hop: Hop<Kept, Kept>) -> Store<EmptyLoad> {
 fn a_rain_over_a_hop_hands_its_channels_back(rt: HostRuntime) {
     let frame = opening(EmptyLoad);
     let mut rain = Rain::new(Hop::new(make_kept(), make_kept()), &[1]).unwrap();
-    follow(&rt, &mut rain, &[Used::Put(frame, Ok(()))]);
+    follow(&rt, &mut rain, &[(Used::Put(frame, Ok(())), true)]);
     let mut store = near_of(rain.into_below());
-    follow(&rt, &mut store, &[Used::Poll(Poll::Arrived(frame))]);
+    follow(
+        &rt,
+        &mut store,
+        &[(Used::Poll(Poll::Arrived(frame)), false)],
+    );
 }
 
 #[test]
 fn a_refused_rain_hands_its_channel_back(rt: HostRuntime) {
     let mut hop = Hop::new(make_kept(), make_kept());
     let frame = opening(EmptyLoad);
-    follow(&rt, &mut hop, &[Used::Put(frame, Ok(()))]);
+    follow(&rt, &mut hop, &[(Used::Put(frame, Ok(())), true)]);
     let refused = Rain::new(hop, &[3]).unwrap_err();
     let mut store = near_of(refused.below);
-    follow(&rt, &mut store, &[Used::Poll(Poll::Arrived(frame))]);
+    follow(
+        &rt,
+        &mut store,
+        &[(Used::Poll(Poll::Arrived(frame)), false)],
+    );
 }
 
 #[test]

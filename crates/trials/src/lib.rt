@@ -11,6 +11,8 @@ mod framecases;
 #[cfg(test)]
 mod hopcases;
 #[cfg(test)]
+mod hutcases;
+#[cfg(test)]
 mod keptcases;
 #[cfg(test)]
 mod linkends;
@@ -20,6 +22,8 @@ mod linkgoeson;
 mod linkkinds;
 #[cfg(test)]
 mod linkmethods;
+#[cfg(test)]
+mod linkparts;
 #[cfg(test)]
 mod linkrefusals;
 #[cfg(test)]
@@ -34,6 +38,8 @@ mod loadcases;
 mod pilecases;
 #[cfg(test)]
 mod raincases;
+#[cfg(test)]
+mod refusalcases;
 #[cfg(test)]
 mod rowcases;
 #[cfg(test)]

@@ -1,4 +1,4 @@
-//! The refusals of a link: their numbers, and calls that are turned down by them.
+//! Calls of a link that are turned down.
 use crate::crossings::{follow, opening};
 use crate::linksteps::Step::{Join, Make, Outcome};
 use crate::linksteps::{
@@ -8,7 +8,7 @@ use crate::linksteps::{
 use channel::{Channel, Used};
 use channels::{Store, Wire};
 use link::{Answer, Call, Hut, Link, LinkRefusal, Sender};
-use loads::{EmptyLoad, Reading, Refusal};
+use loads::{EmptyLoad, Reading};
 use std::test::Fail;
 
 const NOT_JOINED: Answered<Reading> = Err(LinkRefusal::NotJoined);
@@ -21,29 +21,6 @@ const NO_LOAD: Answered<Reading> = Err(LinkRefusal::NoLoad);
 
 // A request of no load.
 const NONE: Call = Call::Request { start: 0, count: 0 };
-
-#[test]
-fn refusals_have_fixed_numbers(rt: HostRuntime) {
-    let numbers = [
-        (LinkRefusal::AlreadyJoined, 1),
-        (LinkRefusal::TooManyRepeats, 2),
-        (LinkRefusal::ChannelHolds, 3),
-        (LinkRefusal::NotJoined, 4),
-        (LinkRefusal::MessageOpen, 5),
-        (LinkRefusal::BadCount, 6),
-        (LinkRefusal::BeyondBook, 7),
-        (LinkRefusal::NotDue, 8),
-        (LinkRefusal::NoLoad, 9),
-        (LinkRefusal::NothingWaits, 10),
-        (LinkRefusal::ChannelFull, 11),
-        (LinkRefusal::StillOpen, 12),
-        (LinkRefusal::NoneConfirmed, 13),
-        (LinkRefusal::ShortLog, 23),
-    ];
-    for (refusal, number) in &numbers {
-        assert_eq!(rt; refusal.number(), *number);
-    }
-}
 
 const CASES: [Case; 4] = [
     Case {
@@ -133,7 +110,7 @@ fn a_link_does_not_join_while_a_frame_waits(rt: HostRuntime) -> Result<(), Fail>
     follow(
         &rt,
         &mut to_hut,
-        &[Used::Put(opening(Reading { value: 7 }), Ok(()))],
+        &[(Used::Put(opening(Reading { value: 7 }), Ok(())), true)],
     );
     let mut link = Link::new(to_hut, Store::new());
     let holds = Join(0, Err(LinkRefusal::ChannelHolds));
@@ -141,7 +118,11 @@ fn a_link_does_not_join_while_a_frame_waits(rt: HostRuntime) -> Result<(), Fail>
     follow_link(&rt, &mut link, &book, "to the hut", &[holds, too_many]);
     let (to_hut, mut back) = link.into_parts();
     assert!(rt; to_hut.holds());
-    follow(&rt, &mut back, &[Used::Put(opening(EmptyLoad), Ok(()))]);
+    follow(
+        &rt,
+        &mut back,
+        &[(Used::Put(opening(EmptyLoad), Ok(())), true)],
+    );
     let mut link = Link::new(Store::new(), back);
     follow_link(&rt, &mut link, &book, "back", &[holds]);
     Ok(())
@@ -153,22 +134,31 @@ const BEYOND_BOOK: Answered<EmptyLoad> = Err(LinkRefusal::BeyondBook);
 
 const TAKEN: Answered<EmptyLoad> = Ok(Answer::Done);
 
-// A start, a count, and what a request of them answers, over a book of 4,096 loads.
-const REQUESTS: [(u16, u16, Answered<EmptyLoad>); 8] = [
-    (0, 0, BAD_COUNT),
-    (0, 4_097, BAD_COUNT),
-    (65_535, 65_535, BAD_COUNT),
-    (1, 4_096, BEYOND_BOOK),
-    (4_096, 1, BEYOND_BOOK),
-    (65_535, 4_096, BEYOND_BOOK),
-    (4_095, 1, TAKEN),
-    (0, 4_096, TAKEN),
+// How many loads the book has, a start, a count, and what a request of them answers.
+const REQUESTS: [(usize, u16, u16, Answered<EmptyLoad>); 15] = [
+    (4_096, 0, 0, BAD_COUNT),
+    (4_096, 0, 4_097, BAD_COUNT),
+    (4_096, 65_535, 65_535, BAD_COUNT),
+    (4_096, 1, 4_096, BEYOND_BOOK),
+    (4_096, 4_096, 1, BEYOND_BOOK),
+    (4_096, 65_535, 4_096, BEYOND_BOOK),
+    (4_096, 4_095, 1, TAKEN),
+    (4_096, 0, 4_096, TAKEN),
+    // a book may have more loads than a message
+    (4_097, 0, 4_097, BAD_COUNT),
+    (4_097, 4_097, 1, BEYOND_BOOK),
+    (4_097, 2, 4_096, BEYOND_BOOK),
+    (4_097, 1, 4_096, TAKEN),
+    (4_097, 4_096, 1, TAKEN),
+    // and more than there are starts
+    (65_536, 65_535, 2, BEYOND_BOOK),
+    (65_537, 65_535, 2, TAKEN),
 ];
 
 #[test]
 fn requests_are_held_to_the_book(rt: HostRuntime) -> Result<(), Fail> {
-    let book = book_of::<EmptyLoad>(rt.alloc(), 4_096, &[])?;
-    for (start, count, answer) in REQUESTS {
+    for (loads, start, count, answer) in REQUESTS {
+        let book = book_of::<EmptyLoad>(rt.alloc(), loads, &[])?;
         let steps = [
             Join(0, Ok(())),
             Make(Call::Request { start, count }, answer),
@@ -222,7 +212,7 @@ fn a_send_is_turned_down_by_a_full_channel(rt: HostRuntime) -> Result<(), Fail> 
     follow(
         &rt,
         &mut to_hut,
-        &[Used::Put(opening(Reading { value: 7 }), Ok(()))],
+        &[(Used::Put(opening(Reading { value: 7 }), Ok(())), true)],
     );
     let mut sender = Sender::new();
     assert_eq!(rt; sender.request(book.len(), 0, 3), Ok(()));
@@ -237,7 +227,11 @@ fn a_send_is_turned_down_by_a_full_channel(rt: HostRuntime) -> Result<(), Fail> 
 #[test]
 fn a_reply_is_turned_down_by_a_full_channel(rt: HostRuntime) {
     let mut back = Store::new();
-    follow(&rt, &mut back, &[Used::Put(opening(EmptyLoad), Ok(()))]);
+    follow(
+        &rt,
+        &mut back,
+        &[(Used::Put(opening(EmptyLoad), Ok(())), true)],
+    );
     let mut hut = Hut::new();
     hut.carry(&opening(Reading { value: 7 }));
     assert!(rt; hut.tell().is_ok());

@@ -2,7 +2,7 @@
 use crate::linksteps::{
     ARRIVED, Answered, DONE, DONT_KNOW, LOST, NOT_DUE, NOT_OK, OK, ONE, ONLY_7, STILL,
 };
-use link::{Answer, Call, Event, LinkRefusal, Position, TimerRefusal, Word};
+use link::{Answer, Call, Event, LinkRefusal, Position, Word};
 use linktext::{call_line, outcome_line};
 use loads::{EmptyLoad, Load, Piece, Reading};
 use std::alloc::Global;
@@ -91,16 +91,5 @@ fn a_line_shows_the_octets_of_any_load(rt: HostRuntime) -> Result<(), Fail> {
 fn an_outcome_has_its_words(rt: HostRuntime) -> Result<(), Fail> {
     let line = outcome_line(rt.alloc(), Word::DontKnow, 4_096)?;
     assert_eq!(rt; line.as_str(), "outcome DONT_KNOW 4096");
-    Ok(())
-}
-
-#[test]
-fn refusals_have_their_words(rt: HostRuntime) -> Result<(), Fail> {
-    let refusal = LinkRefusal::ShortLog;
-    let text = format!(in rt.alloc(); "{refusal}")?;
-    assert_eq!(rt; text.as_str(), "refused 23");
-    let refusal = TimerRefusal::ShortReplyTimer;
-    let text = format!(in rt.alloc(); "{refusal}")?;
-    assert_eq!(rt; text.as_str(), "refused 24");
     Ok(())
 }

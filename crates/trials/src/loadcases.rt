@@ -1,31 +1,8 @@
 //! Loads at their limits.
-use loads::{
-    EmptyLoad, Fault, Load, Piece, Reading, Refusal, answer_number as number_of, load_comes_back,
-};
+use loads::{EmptyLoad, Load, Piece, Reading, answer_number as number_of, load_comes_back};
 use std::fmt::Debug;
 use std::process::Abort;
 use std::test::Fail;
-
-const FAULTS: [(Fault, u8); 4] = [
-    (Fault::WrongLength, 14),
-    (Fault::WrongKind, 15),
-    (Fault::OutsideRanges, 16),
-    (Fault::NoMemory, 255),
-];
-
-#[test]
-fn faults_have_their_numbers(rt: HostRuntime) {
-    for (fault, number) in FAULTS {
-        assert_eq!(rt; fault.number(), number);
-    }
-}
-
-#[test]
-fn a_fault_has_its_text(rt: HostRuntime) -> Result<(), Fail> {
-    let text = format!(in rt.alloc(); "{}", Fault::OutsideRanges)?;
-    assert_eq!(rt; text.as_str(), "refused 16");
-    Ok(())
-}
 
 // A kind has this number, and loads of so many octets.
 fn is_kind<T: Load>(rt: &impl Abort, number: u8, octets: usize) {

@@ -1,5 +1,5 @@
 //! The rain: its marks, their order and their limits.
-use crate::crossings::{below, follow, opening};
+use crate::crossings::{Seen, below, follow, opening};
 use channel::{Full, Poll, Used};
 use channels::{Hop, Mark, Rain, Store};
 use loads::{EmptyLoad, Frame, Reading, answer_number};
@@ -11,22 +11,22 @@ const SEVEN: Frame<Reading> = Frame {
     load: Reading { value: 7 },
 };
 
-const IN_ORDER: [Used<Reading>; 15] = [
-    Used::Poll(Poll::Empty),
-    Used::Put(SEVEN, Ok(())),
-    Used::Poll(Poll::Lost),
-    Used::Poll(Poll::Empty),
-    Used::Put(SEVEN, Ok(())),
-    Used::Put(SEVEN, Err(Full)),
-    Used::Poll(Poll::Still),
-    Used::Poll(Poll::Arrived(SEVEN)),
-    Used::Put(SEVEN, Ok(())),
-    Used::Poll(Poll::Arrived(SEVEN)),
-    Used::Put(SEVEN, Ok(())),
-    Used::Poll(Poll::Lost),
-    Used::Put(SEVEN, Ok(())),
-    Used::Poll(Poll::Arrived(SEVEN)),
-    Used::Poll(Poll::Empty),
+const IN_ORDER: [Seen<Reading>; 15] = [
+    (Used::Poll(Poll::Empty), false),
+    (Used::Put(SEVEN, Ok(())), true),
+    (Used::Poll(Poll::Lost), false),
+    (Used::Poll(Poll::Empty), false),
+    (Used::Put(SEVEN, Ok(())), true),
+    (Used::Put(SEVEN, Err(Full)), true),
+    (Used::Poll(Poll::Still), true),
+    (Used::Poll(Poll::Arrived(SEVEN)), false),
+    (Used::Put(SEVEN, Ok(())), true),
+    (Used::Poll(Poll::Arrived(SEVEN)), false),
+    (Used::Put(SEVEN, Ok(())), true),
+    (Used::Poll(Poll::Lost), false),
+    (Used::Put(SEVEN, Ok(())), true),
+    (Used::Poll(Poll::Arrived(SEVEN)), false),
+    (Used::Poll(Poll::Empty), false),
 ];
 
 #[test]
@@ -43,27 +43,30 @@ fn a_delay_does_not_poll_below(rt: HostRuntime) {
     follow(
         &rt,
         &mut rain,
-        &[Used::Put(frame, Ok(())), Used::Poll(Poll::Still)],
+        &[
+            (Used::Put(frame, Ok(())), true),
+            (Used::Poll(Poll::Still), true),
+        ],
     );
     let (mut near, mut far) = rain.into_below().into_parts();
-    follow(&rt, &mut far, &[Used::Poll(Poll::Empty)]);
-    follow(&rt, &mut near, &[Used::Poll(Poll::Arrived(frame))]);
+    follow(&rt, &mut far, &[(Used::Poll(Poll::Empty), false)]);
+    follow(&rt, &mut near, &[(Used::Poll(Poll::Arrived(frame)), false)]);
 }
 
 #[test]
 fn a_frame_that_was_below_before_has_no_mark(rt: HostRuntime) {
     let frame = opening(Reading { value: 7 });
     let mut store = Store::new();
-    follow(&rt, &mut store, &[Used::Put(frame, Ok(()))]);
+    follow(&rt, &mut store, &[(Used::Put(frame, Ok(())), true)]);
     let mut rain = below(&rt, store, &[1]);
     follow(
         &rt,
         &mut rain,
         &[
-            Used::Put(frame, Err(Full)),
-            Used::Poll(Poll::Arrived(frame)),
-            Used::Put(frame, Ok(())),
-            Used::Poll(Poll::Lost),
+            (Used::Put(frame, Err(Full)), true),
+            (Used::Poll(Poll::Arrived(frame)), false),
+            (Used::Put(frame, Ok(())), true),
+            (Used::Poll(Poll::Lost), false),
         ],
     );
 }
@@ -78,17 +81,20 @@ fn the_sixty_fourth_mark_is_the_last(rt: HostRuntime) {
         follow(
             &rt,
             &mut rain,
-            &[Used::Put(frame, Ok(())), Used::Poll(Poll::Arrived(frame))],
+            &[
+                (Used::Put(frame, Ok(())), true),
+                (Used::Poll(Poll::Arrived(frame)), false),
+            ],
         );
     }
     follow(
         &rt,
         &mut rain,
         &[
-            Used::Put(frame, Ok(())),
-            Used::Poll(Poll::Lost),
-            Used::Put(frame, Ok(())),
-            Used::Poll(Poll::Arrived(frame)),
+            (Used::Put(frame, Ok(())), true),
+            (Used::Poll(Poll::Lost), false),
+            (Used::Put(frame, Ok(())), true),
+            (Used::Poll(Poll::Arrived(frame)), false),
         ],
     );
 }
@@ -139,8 +145,12 @@ fn kept_marks_are_taken_in_order(rt: HostRuntime) {
 fn a_refused_channel_comes_back_as_it_was(rt: HostRuntime) {
     let frame = opening(Reading { value: 7 });
     let mut store = Store::new();
-    follow(&rt, &mut store, &[Used::Put(frame, Ok(()))]);
+    follow(&rt, &mut store, &[(Used::Put(frame, Ok(())), true)]);
     let refused = Rain::new(store, &[0; 65]).unwrap_err();
     let mut store = refused.below;
-    follow(&rt, &mut store, &[Used::Poll(Poll::Arrived(frame))]);
+    follow(
+        &rt,
+        &mut store,
+        &[(Used::Poll(Poll::Arrived(frame)), false)],
+    );
 }

@@ -1,6 +1,6 @@
 //! Rows of uses, and how much of a row the log has room for.
 use crate::crossings::{closing, opening};
-use channel::{Full, Poll, Use, Used, make_uses};
+use channel::{Channel, Full, Poll, Use, Used, make_uses};
 use channels::{Store, Wire};
 use loads::{EmptyLoad, Piece};
 use std::test::Fail;
@@ -17,7 +17,9 @@ fn uses_are_logged_with_their_answers(rt: HostRuntime) -> Result<(), Fail> {
         Use::Poll,
     ];
     let mut log = [Used::Poll(Poll::Still); 6];
-    assert_eq!(rt; make_uses(&mut Wire::new(), &uses, &mut log), 5);
+    let mut wire = Wire::new();
+    assert_eq!(rt; make_uses(&mut wire, &uses, &mut log), 5);
+    assert!(rt; !wire.holds());
     assert_eq!(rt;
         log,
         [
@@ -39,9 +41,12 @@ fn no_more_uses_are_made_than_the_log_has_room_for(rt: HostRuntime) {
     let mut store = Store::new();
     let mut log = [Used::Poll(Poll::Still); 1];
     assert_eq!(rt; make_uses(&mut store, &uses, &mut log[0..0]), 0);
+    assert!(rt; !store.holds());
     assert_eq!(rt; log, [Used::Poll(Poll::Still)]);
     assert_eq!(rt; make_uses(&mut store, &uses, &mut log), 1);
+    assert!(rt; store.holds());
     assert_eq!(rt; log, [Used::Put(frame, Ok(()))]);
     assert_eq!(rt; make_uses(&mut store, &[Use::Poll], &mut log), 1);
+    assert!(rt; !store.holds());
     assert_eq!(rt; log, [Used::Poll(Poll::Arrived(frame))]);
 }

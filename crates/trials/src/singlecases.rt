@@ -1,21 +1,21 @@
 //! The store and the wire: one frame, which arrives.
-use crate::crossings::{closing, follow, opening};
+use crate::crossings::{Seen, closing, follow, opening};
 use channel::{Full, Poll, Used};
 use channels::{Store, Wire};
 use loads::{EmptyLoad, Frame, Piece, Reading};
 use std::test::Fail;
 
 // Two frames through a channel that holds one and loses none.
-fn two_cross<T: Copy>(first: Frame<T>, second: Frame<T>) -> [Used<T>; 8] {
+fn two_cross<T: Copy>(first: Frame<T>, second: Frame<T>) -> [Seen<T>; 8] {
     [
-        Used::Poll(Poll::Empty),
-        Used::Put(first, Ok(())),
-        Used::Put(second, Err(Full)),
-        Used::Poll(Poll::Arrived(first)),
-        Used::Poll(Poll::Empty),
-        Used::Put(second, Ok(())),
-        Used::Poll(Poll::Arrived(second)),
-        Used::Poll(Poll::Empty),
+        (Used::Poll(Poll::Empty), false),
+        (Used::Put(first, Ok(())), true),
+        (Used::Put(second, Err(Full)), true),
+        (Used::Poll(Poll::Arrived(first)), false),
+        (Used::Poll(Poll::Empty), false),
+        (Used::Put(second, Ok(())), true),
+        (Used::Poll(Poll::Arrived(second)), false),
+        (Used::Poll(Poll::Empty), false),
     ]
 }
 

@@ -1,7 +1,9 @@
 //! The text of frames and of what became of them.
 use channel::{Full, Poll, Used};
 use frametext::{AnyFrame, frame_line, frame_lines, hexadecimal, use_line};
-use loads::{EmptyLoad, Frame, Reading};
+use loads::{EmptyLoad, Frame, Load, Reading};
+use std::alloc::Global;
+use std::process::Abort;
 use std::test::Fail;
 
 const HEXADECIMAL: [(&[u8], &str); 2] = [
@@ -55,21 +57,12 @@ fn a_frame_has_its_text(rt: HostRuntime) -> Result<(), Fail> {
     Ok(())
 }
 
-#[test]
-fn a_change_past_the_end_changes_nothing(rt: HostRuntime) -> Result<(), Fail> {
-    let frame = Frame {
-        first: false,
-        last: false,
-        toggle: false,
-        load: EmptyLoad,
-    };
-    let lines = frame_lines(rt.alloc(), &frame, 1, 0xFF)?;
-    assert_eq!(rt;
-        lines.as_str(),
-        "wrote 00: first off, last off, toggle off, empty load\ndamaged 00: first off, last off, toggle off, empty load"
-    );
-    Ok(())
-}
+const EMPTY: Frame<EmptyLoad> = Frame {
+    first: false,
+    last: false,
+    toggle: false,
+    load: EmptyLoad,
+};
 
 const SEVEN: Frame<Reading> = Frame {
     first: true,
@@ -77,6 +70,70 @@ const SEVEN: Frame<Reading> = Frame {
     toggle: false,
     load: Reading { value: 7 },
 };
+
+// The lines of a frame in which nothing is changed.
+const EMPTY_AS_IT_IS: &str = "wrote 00: first off, last off, toggle off, empty load\n\
+    damaged 00: first off, last off, toggle off, empty load";
+
+const SEVEN_AS_IT_IS: &str = "wrote 8100000007: first on, last off, toggle off, reading 7\n\
+    damaged 8100000007: first on, last off, toggle off, reading 7";
+
+// A place, the octet that is put there, and the lines of the frame.
+type Change = (usize, u8, &'static str);
+
+// Past the octets that a frame has, and past the most that any frame has, nothing is changed.
+const OF_EMPTY: [Change; 5] = [
+    (
+        0,
+        0xFF,
+        "wrote 00: first off, last off, toggle off, empty load\ndamaged FF: refused 15",
+    ),
+    (1, 0xFF, EMPTY_AS_IT_IS),
+    (31, 0xFF, EMPTY_AS_IT_IS),
+    (33, 0xFF, EMPTY_AS_IT_IS),
+    (255, 0xFF, EMPTY_AS_IT_IS),
+];
+
+const OF_SEVEN: [Change; 8] = [
+    (
+        0,
+        0xFF,
+        "wrote 8100000007: first on, last off, toggle off, reading 7\n\
+         damaged FF00000007: refused 15",
+    ),
+    (
+        4,
+        0xFF,
+        "wrote 8100000007: first on, last off, toggle off, reading 7\n\
+         damaged 81000000FF: first on, last off, toggle off, reading 255",
+    ),
+    (5, 0xFF, SEVEN_AS_IT_IS),
+    (31, 0xFF, SEVEN_AS_IT_IS),
+    (32, 0xFF, SEVEN_AS_IT_IS),
+    (33, 0xFF, SEVEN_AS_IT_IS),
+    (255, 0xFF, SEVEN_AS_IT_IS),
+    (18_446_744_073_709_551_615, 0xFF, SEVEN_AS_IT_IS),
+];
+
+// Each change of a frame has its lines.
+fn change<T: Load>(
+    rt: &impl Abort,
+    heap: Global,
+    frame: &Frame<T>,
+    changes: &[Change],
+) -> Result<(), Fail> {
+    for (place, octet, lines) in changes {
+        let text = frame_lines(heap, frame, *place, *octet)?;
+        assert_eq!(rt; text.as_str(), *lines, "at {place}");
+    }
+    Ok(())
+}
+
+#[test]
+fn a_change_past_the_end_changes_nothing(rt: HostRuntime) -> Result<(), Fail> {
+    change(&rt, rt.alloc(), &EMPTY, &OF_EMPTY)?;
+    change(&rt, rt.alloc(), &SEVEN, &OF_SEVEN)
+}
 
 const USES: [(Used<Reading>, &str); 6] = [
     (Used::Put(SEVEN, Ok(())), "put 8100000007: 0"),

@@ -1,6 +1,5 @@
 //! The timer question at its limits.
 use link::{TimerRefusal, timers_fit};
-use loads::Refusal;
 
 const TOO_MANY: Result<(), TimerRefusal> = Err(TimerRefusal::TooManyRepeats);
 
@@ -36,18 +35,5 @@ fn timers_have_their_limits(rt: HostRuntime) {
             *answer,
             "timers {i}"
         );
-    }
-}
-
-const NUMBERS: [(TimerRefusal, u8); 3] = [
-    (TimerRefusal::TooManyRepeats, 2),
-    (TimerRefusal::ShortReplyTimer, 24),
-    (TimerRefusal::ShortHutTimer, 25),
-];
-
-#[test]
-fn timer_refusals_have_fixed_numbers(rt: HostRuntime) {
-    for (refusal, number) in NUMBERS {
-        assert_eq!(rt; refusal.number(), number);
     }
 }
