@@ -1,2 +1,4 @@
-pub mod Endings
 pub mod Examples
+pub mod Definitions
+pub mod Answers
+pub mod Messages

@@ -1,32 +1,35 @@
 //! The worked examples: frames, pieces, requests, three messages, and timers.
-ghost use Rattle.std.specs.Prelude.{◌≡◌, List, length, MatchResult};
-ghost use Rattle.loads.specs.declared.faults.Fault.TheVariants.{NoMemory};
-ghost use Rattle.worked.specs.Examples.{zeros, examples, computed};
+ghost use Rattle.std.specs.Prelude.{◌≡◌, List, Ok, IfOk, replicate};
+ghost use Rattle.worked.specs.Definitions.{by_definition};
+ghost use Rattle.worked.specs.Examples.{examples, AreExamples};
 
-use crate::endings::{Ending, run_over};
-use channels::{Store, Wire};
-use link::{Call, Link, LinkRefusal, TimerRefusal, timers_fit};
-use loads::{Book, EmptyLoad, Fault, Frame, Piece, Reading};
+use crate::messages::MessageExample;
+use crate::questions::{PieceExample, RequestExample, TimerExample};
+use channels::Mark;
+use link::Call;
+use loads::{Book, EmptyLoad, Frame, Reading};
 use std::alloc::{AllocError, Global};
 
-/// What each of the examples comes to.
+/// The examples, each a question with its answer. Those that need a book or a log are none where
+/// there is no memory for it.
+#[derive(Drop)]
 pub struct Examples {
-    /// a frame of reading 7, first on, last and toggle off
-    pub frame: [u8; 5],
-    /// a reply, last and toggle on, first off
-    pub reply: [u8; 1],
-    /// at zoom 20 columns 1,048,575 and 1,048,576, and zoom 21
-    pub pieces: [Result<Piece, Fault>; 3],
-    /// of a book of 4,096: 4,097 loads from place 0, 4,096 from place 1, 4,096 from place 0
-    pub requests: [Result<(), LinkRefusal>; 3],
-    /// one load without repeats, whose frame is lost
-    pub lost_frame: Ending,
-    /// two loads, one of them replied to, abandoned; its last calls are part and break
-    pub abandoned: Ending,
-    /// one load without repeats, told, whose reply is lost; its last calls are part and meet
-    pub lost_reply: Ending,
-    /// 2 repeats and a bound of 2 ticks: t1 of 4; t1 of 5 with t2 of 10 and of 11
-    pub timers: [Result<(), TimerRefusal>; 3],
+    /// a frame of a reading, and its octets
+    pub frame: (Frame<Reading>, [u8; 5]),
+    /// a reply, and its octets
+    pub reply: (Frame<EmptyLoad>, [u8; 1]),
+    /// the last column at zoom 20, the column behind it, and a zoom that no map has
+    pub pieces: [PieceExample; 3],
+    /// more loads than a message may have, more than the book has from there, and all of the book
+    pub requests: Result<[RequestExample; 3], AllocError>,
+    /// one load, whose frame is lost
+    pub lost_frame: Result<MessageExample, AllocError>,
+    /// two loads, one of them replied to, abandoned; after the part a break is due
+    pub abandoned: Result<MessageExample, AllocError>,
+    /// one load, told, whose reply is lost; after the part a meet is due
+    pub lost_reply: Result<MessageExample, AllocError>,
+    /// t1 that is too short, t2 that is, and neither
+    pub timers: [TimerExample; 3],
 }
 
 const LOST_FRAME: [Call; 5] = [
@@ -63,123 +66,115 @@ const LOST_REPLY: [Call; 10] = [
     Call::Meet,
 ];
 
-// The octets of a book of 4,096 readings.
-const ZEROS: [u8; 16384] = [0; 16384];
-
-// The frame's octets.
-fn reading_octets() -> [u8; 5]
+// The frame.
+fn frame() -> (Frame<Reading>, [u8; 5])
     ensures answer { result ≡ examples.frame }
 {
-    let mut octets = [0; 5];
     let frame = Frame {
         first: true,
         last: false,
         toggle: false,
         load: Reading { value: 7 },
     };
+    let mut octets = [0; 5];
     frame.write(&mut octets).unwrap();
-    octets
+    (frame, octets)
 }
 
-// The reply's octets.
-fn reply_octets() -> [u8; 1]
+// The reply.
+fn reply() -> (Frame<EmptyLoad>, [u8; 1])
     ensures answer { result ≡ examples.reply }
 {
-    let mut octets = [0; 1];
     let frame = Frame {
         first: false,
         last: true,
         toggle: true,
         load: EmptyLoad,
     };
+    let mut octets = [0; 1];
     frame.write(&mut octets).unwrap();
-    octets
+    (frame, octets)
 }
 
-// The pieces, or why they are none.
-fn pieces() -> [Result<Piece, Fault>; 3]
+// The pieces.
+fn pieces() -> [PieceExample; 3]
     ensures answer { result ≡ examples.pieces }
 {
     [
-        Piece::new(20, 1_048_575, 0, 0, 0),
-        Piece::new(20, 1_048_576, 0, 0, 0),
-        Piece::new(21, 0, 0, 0, 0),
+        PieceExample::ask(20, 1_048_575, 0, 0, 0),
+        PieceExample::ask(20, 1_048_576, 0, 0, 0),
+        PieceExample::ask(21, 0, 0, 0, 0),
     ]
 }
 
-// A book of 4,096 readings.
-fn longest_book(heap: Global) -> Result<Book<Reading>, Fault>
-    ensures answer { MatchResult result (λ book. book ≡ zeros) (λ fault. fault ≡ NoMemory) }
+// A book of as many loads as a message may have.
+fn longest_book(heap: Global) -> Result<Book<Reading>, AllocError>
+    ensures answer { IfOk result (λ book. book ≡ replicate 4096 (record { value = 0 })) }
 {
-    Book::read(heap, 4096, &ZEROS)
+    Ok(Book::new(vec![in heap; Reading { value: 0 }; 4096]?))
 }
 
-// The requests' answers; the last of them is accepted.
-fn requests(heap: Global) -> Result<[Result<(), LinkRefusal>; 3], Fault>
-    ensures answer { MatchResult result (λ answers. answers ≡ examples.requests)
-        (λ fault. fault ≡ NoMemory) }
+// The requests.
+fn requests(heap: Global) -> Result<[RequestExample; 3], AllocError>
+    ensures answer { IfOk result (λ given. Ok given ≡ examples.requests) }
 {
     let book = longest_book(heap)?;
-    let mut link = Link::new(Wire::new(), Store::new());
-    link.join(0).unwrap();
     Ok([
-        link.request(&book, 0, 4097),
-        link.request(&book, 1, 4096),
-        link.request(&book, 0, 4096),
+        RequestExample::ask(&book, 0, 4097),
+        RequestExample::ask(&book, 1, 4096),
+        RequestExample::ask(&book, 0, 4096),
     ])
 }
 
-// How the message ends whose frame is lost.
-fn lost_frame(heap: Global) -> Result<Ending, Fault>
-    ensures answer { MatchResult result (λ ending. ending ≡ examples.lost_frame)
-        (λ fault. fault ≡ NoMemory) }
+// The message whose frame is lost.
+fn lost_frame(heap: Global) -> Result<MessageExample, AllocError>
+    ensures answer { IfOk result (λ given. Ok given ≡ examples.lost_frame) }
 {
-    let book = Book::read(heap, 1, &[0, 0, 0, 7])?;
-    Ok(run_over(heap, &book, 0, &[1], &[], &LOST_FRAME)?)
+    let loads = [Reading { value: 7 }];
+    MessageExample::run(heap, 0, &loads, &[Mark::Lose], &[], &LOST_FRAME)
 }
 
-// How the message ends that is abandoned.
-fn abandoned(heap: Global) -> Result<Ending, Fault>
-    ensures answer { MatchResult result (λ ending. ending ≡ examples.abandoned)
-        (λ fault. fault ≡ NoMemory) }
+// The message that is abandoned.
+fn abandoned(heap: Global) -> Result<MessageExample, AllocError>
+    ensures answer { IfOk result (λ given. Ok given ≡ examples.abandoned) }
 {
-    let book = Book::read(heap, 2, &[0, 0, 0, 7, 0, 0, 0, 8])?;
-    Ok(run_over(heap, &book, 0, &[], &[], &ABANDONED)?)
+    let loads = [Reading { value: 7 }, Reading { value: 8 }];
+    MessageExample::run(heap, 0, &loads, &[], &[], &ABANDONED)
 }
 
-// How the message ends whose reply is lost.
-fn lost_reply(heap: Global) -> Result<Ending, Fault>
-    ensures answer { MatchResult result (λ ending. ending ≡ examples.lost_reply)
-        (λ fault. fault ≡ NoMemory) }
+// The message whose reply is lost.
+fn lost_reply(heap: Global) -> Result<MessageExample, AllocError>
+    ensures answer { IfOk result (λ given. Ok given ≡ examples.lost_reply) }
 {
-    let book = Book::read(heap, 1, &[0, 0, 0, 7])?;
-    Ok(run_over(heap, &book, 0, &[], &[1], &LOST_REPLY)?)
+    let loads = [Reading { value: 7 }];
+    MessageExample::run(heap, 0, &loads, &[], &[Mark::Lose], &LOST_REPLY)
 }
 
-// The timers' answers.
-fn timers() -> [Result<(), TimerRefusal>; 3]
+// The timers.
+fn timers() -> [TimerExample; 3]
     ensures answer { result ≡ examples.timers }
 {
     [
-        timers_fit(2, 2, 4, 10),
-        timers_fit(2, 2, 5, 10),
-        timers_fit(2, 2, 5, 11),
+        TimerExample::ask(2, 2, 4, 10),
+        TimerExample::ask(2, 2, 5, 10),
+        TimerExample::ask(2, 2, 5, 11),
     ]
 }
 
-/// All of the examples, through the calls of the library. Open: whether there is memory for the books and the logs.
-pub fn worked_examples(heap: Global) -> Result<Examples, Fault>
-    ensures answers { MatchResult result (λ given. given ≡ examples) (λ fault. fault ≡ NoMemory) }
-    ensures definitions { computed ≡ examples }
+/// All of the examples, through the calls of the library. Open: whether there is memory for the
+/// books and the logs.
+pub fn worked_examples(heap: Global) -> Examples
+    ensures answers { AreExamples result }
+    ensures definitions { by_definition examples ≡ examples }
 {
-    Ok(Examples {
-        frame: reading_octets(),
-        reply: reply_octets(),
+    Examples {
+        frame: frame(),
+        reply: reply(),
         pieces: pieces(),
-        requests: requests(heap)?,
-        lost_frame: lost_frame(heap)?,
-        abandoned: abandoned(heap)?,
-        lost_reply: lost_reply(heap)?,
+        requests: requests(heap),
+        lost_frame: lost_frame(heap),
+        abandoned: abandoned(heap),
+        lost_reply: lost_reply(heap),
         timers: timers(),
-    })
+    }
 }

@@ -2,8 +2,10 @@
 
 #![tactic(auto)]
 
-mod endings;
 mod examples;
+mod messages;
+mod questions;
 
-pub use endings::Ending;
 pub use examples::{Examples, worked_examples};
+pub use messages::MessageExample;
+pub use questions::{PieceExample, RequestExample, TimerExample};

@@ -1,8 +1,0 @@
-use Rattle.std.proofs.Common.{[], ◌∷◌, ap, ◌∙◌}
-use Rattle.channels.specs.declared.marks.Mark.TheVariants.{Lose}
-use Rattle.worked.specs.Examples.{ends, lost_reply_calls}
-use Rattle.worked.proofs.examples.lost_reply.Goals as goal
-
-pub returns : goal.returns
-returns c =
-    record { answer = c.in_ok-run_over.ensures.answer ∙ ap (λ book. ends book [] (Lose ∷ []) lost_reply_calls) c.in_ok-book.ensures.cases }
