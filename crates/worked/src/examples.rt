@@ -14,21 +14,21 @@ use std::alloc::{AllocError, Global};
 /// there is no memory for it.
 #[derive(Drop)]
 pub struct Examples {
-    /// a frame of a reading, and its octets
+    /// A frame of a reading, and its octets.
     pub frame: (Frame<Reading>, [u8; 5]),
-    /// a reply, and its octets
+    /// A reply, and its octets.
     pub reply: (Frame<EmptyLoad>, [u8; 1]),
-    /// the last column at zoom 20, the column behind it, and a zoom that no map has
+    /// The last column at zoom 20, the column behind it, and a zoom that no map has.
     pub pieces: [PieceExample; 3],
-    /// more loads than a message may have, more than the book has from there, and all of the book
+    /// More loads than a message may have, more than the book has from there, and all of the book.
     pub requests: Result<[RequestExample; 3], AllocError>,
-    /// one load, whose frame is lost
+    /// One load, whose frame is lost.
     pub lost_frame: Result<MessageExample, AllocError>,
-    /// two loads, one of them replied to, abandoned; after the part a break is due
+    /// Two loads, one of them replied to, abandoned; after the part a break is due.
     pub abandoned: Result<MessageExample, AllocError>,
-    /// one load, told, whose reply is lost; after the part a meet is due
+    /// One load, told, whose reply is lost; after the part a meet is due.
     pub lost_reply: Result<MessageExample, AllocError>,
-    /// t1 that is too short, t2 that is, and neither
+    /// Timers whose t1 is too short, whose t2 is, and that fit.
     pub timers: [TimerExample; 3],
 }
 

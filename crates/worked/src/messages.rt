@@ -16,17 +16,17 @@ use std::marker::Model;
 /// Calls on a link that has just joined, with their answers.
 #[derive(Drop)]
 pub struct MessageExample {
-    /// the repeats that the link joins with
+    /// The repeats that the link joins with.
     pub repeats: u8,
-    /// the book
+    /// The book.
     pub book: Book<Reading>,
-    /// what becomes of each frame to the hut
+    /// What becomes of each frame to the hut.
     pub to_hut: &'static [Mark],
-    /// and of each frame back
+    /// And of each frame back.
     pub back: &'static [Mark],
-    /// each call, with what it answered
+    /// Each call, with what it answered.
     pub events: Vec<Event<Reading>>,
-    /// the word of the last message, and how many of its loads the hut was told
+    /// The word of the last message, and how many of its loads the hut was told.
     pub outcome: Result<(Word, u32), LinkRefusal>,
 }
 

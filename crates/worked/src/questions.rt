@@ -9,45 +9,45 @@ use loads::{Book, Piece, Reading, Refusal};
 /// The fields of a piece, and whether there is such a piece.
 #[derive(Clone, Copy)]
 pub struct PieceExample {
-    /// the tile's zoom
+    /// The tile's zoom.
     pub zoom: u8,
-    /// the tile's column
+    /// The tile's column.
     pub column: u32,
-    /// the tile's row
+    /// The tile's row.
     pub row: u32,
-    /// which part of the tile it is
+    /// Which part of the tile it is.
     pub number: u16,
-    /// the 64 bits of the part
+    /// The 64 bits of the part.
     pub body: u64,
-    /// the piece, or the number of the refusal
+    /// The piece, or the number of the refusal.
     pub answer: Result<Piece, u8>,
 }
 
 /// A request on a link that has just joined, and whether it is accepted.
 #[derive(Clone, Copy)]
 pub struct RequestExample {
-    /// how many loads the book has
+    /// How many loads the book has.
     pub loads: usize,
-    /// the place of the first load that is asked for
+    /// The place of the first load that is asked for.
     pub start: u16,
-    /// how many loads are asked for
+    /// How many loads are asked for.
     pub count: u16,
-    /// accepted, or the number of the refusal
+    /// Accepted, or the number of the refusal.
     pub answer: Result<(), u8>,
 }
 
 /// Timers, and whether they fit.
 #[derive(Clone, Copy)]
 pub struct TimerExample {
-    /// the repeats of the link
+    /// The repeats of the link.
     pub repeats: u8,
-    /// the most ticks that a channel keeps a frame
+    /// The most ticks that a channel keeps a frame.
     pub bound: u16,
-    /// the ticks of the sender's timer
+    /// The ticks of the sender's timer.
     pub t1: u16,
-    /// the ticks of the hut's timer
+    /// The ticks of the hut's timer.
     pub t2: u16,
-    /// accepted, or the number of the refusal
+    /// Accepted, or the number of the refusal.
     pub answer: Result<(), u8>,
 }
 
