@@ -24,3 +24,5 @@ mod sizes;
 mod texts;
 #[cfg(test)]
 mod trailers;
+#[cfg(test)]
+mod workedcases;
