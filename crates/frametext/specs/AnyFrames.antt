@@ -1,5 +1,5 @@
 -- A frame of whichever kind its first octet names, and its text.
-use Rattle.std.specs.Prelude.{ℕ, Bool, if◌then◌else◌, List, [], ◌∷◌, ◌++◌, Ok, Err, Result, codes, decimal, ◌==◌}
+use Rattle.std.specs.Prelude.{ℕ, Bool, if◌then◌else◌, List, [], ◌∷◌, ◌++◌, length, nat_le, Ok, Err, Result, codes, decimal, ◌==◌}
 use Rattle.loads.specs.declared.faults.Fault.{Fault}
 use Rattle.loads.specs.declared.faults.Fault.TheVariants.{WrongLength, WrongKind}
 use Rattle.loads.specs.declared.frames.Frame.{Frame}
@@ -23,10 +23,16 @@ of_kind kind octets =
     else if kind == piece_kind then any_of Piece (frame_reads pieces octets)
     else Err WrongKind
 
--- the frame that octets spell; without a first octet their number is wrong
+-- the most octets that a frame of any kind has
+abbrev pub longest_frame : ℕ
+longest_frame = 32
+
+-- the frame that octets spell; none at all are too few for every kind, and more than any frame has are too many
 abbrev pub any_reads : List ℕ → Result AnyFrame Fault
 any_reads [] = Err WrongLength
-any_reads (first ∷ others) = of_kind (kind_of first) (first ∷ others)
+any_reads (first ∷ others) =
+    if nat_le (length (first ∷ others)) longest_frame then of_kind (kind_of first) (first ∷ others)
+    else Err WrongLength
 
 -- a bit as a word
 abbrev pub on_off : Bool → List ℕ

@@ -1,3 +1,4 @@
+pub mod Additions
 pub mod Hexadecimals
 pub mod AnyFrames
 pub mod Lines

@@ -2,7 +2,7 @@
 ghost use Rattle.std.specs.Prelude.{◌≡◌, Some};
 ghost use Rattle.frametext.specs.AnyFrames.{any_reads, on_off, bits_text, frame_text};
 
-use loads::{EmptyLoad, Fault, Frame, Load, Piece, Reading, kind_of};
+use loads::{EmptyLoad, Fault, Frame, LONGEST_FRAME, Load, Piece, Reading, kind_of};
 use std::fmt;
 
 /// A frame, by the kind of its load.
@@ -18,14 +18,17 @@ pub enum AnyFrame {
 
 impl AnyFrame {
     /// The frame that octets spell, of the kind that the first of them names. Refused by
-    /// `WrongLength` where there is none, by `WrongKind` where no load has that kind, and else as
-    /// by the reader of a frame of the kind.
+    /// `WrongLength` where there is none or there are more than any frame has, by `WrongKind` where
+    /// no load has that kind, and else as by the reader of a frame of the kind.
     pub fn read(octets: &[u8]) -> Result<AnyFrame, Fault>
         ensures answer { result ≡ any_reads octets.now }
     {
         let [header, ..] = octets else {
             return Err(Fault::WrongLength);
         };
+        if octets.len() > LONGEST_FRAME {
+            return Err(Fault::WrongLength);
+        }
         match kind_of(*header) {
             EmptyLoad::KIND => Frame::read(octets).map(AnyFrame::Empty),
             Reading::KIND => Frame::read(octets).map(AnyFrame::Reading),

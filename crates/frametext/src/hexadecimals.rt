@@ -1,5 +1,6 @@
 //! Octets in hexadecimal, with capitals.
-ghost use Rattle.std.specs.Prelude.{◌≡◌, ◌<◌, ◌++◌, length, string_bytes, OnOk, OnErr, MatchResult};
+ghost use Rattle.std.specs.Prelude.{◌≡◌, ◌<◌, [], ◌∷◌, length, string_bytes, MatchResult};
+ghost use Rattle.frametext.specs.Additions.{Adds};
 ghost use Rattle.frametext.specs.Hexadecimals.{digit, hexadecimal as hexadecimal_of};
 
 use std::alloc::{AllocError, Global};
@@ -16,17 +17,22 @@ fn digit(value: u8) -> char
     }
 }
 
-/// Adds two digits for each octet to a text, and nothing between them. Open: whether there is
-/// memory for them, where there are any, and what of them the text has if not.
+// Adds the two digits of an octet to a text.
+fn push_octet(text: &mut String, octet: u8) -> Result<(), AllocError>
+    ensures added { Adds text.old text.new (hexadecimal_of (octet ∷ [])) result }
+{
+    text.push(digit(octet / 16))?;
+    text.push(digit(octet % 16))
+}
+
+/// Adds two digits for each octet to a text, and nothing between them. Where memory is wanting, the
+/// text has a front of them at most. Open: whether it is wanting, where the text has no room.
 /// Not by the kit's crate `hex`, which does not say that no octets need no memory.
 pub fn push_hexadecimal(text: &mut String, octets: &[u8]) -> Result<(), AllocError>
-    ensures made { OnOk result
-        (string_bytes text.new ≡ string_bytes text.old ++ hexadecimal_of octets.now) }
-    ensures memory { OnErr result (0 < length octets.now) }
+    ensures added { Adds text.old text.new (hexadecimal_of octets.now) result }
 {
     for octet in octets {
-        text.push(digit(octet / 16))?;
-        text.push(digit(octet % 16))?;
+        push_octet(text, *octet)?;
     }
     Ok(())
 }

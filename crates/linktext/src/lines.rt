@@ -1,17 +1,16 @@
 //! The printed lines of a link: of a call with its answer, and of an outcome.
 ghost use Rattle.std.specs.Prelude.{◌≡◌, ◌++◌, IfOk, codes, string_bytes, decimal};
+ghost use Rattle.frametext.specs.Additions.{Adds};
 ghost use Rattle.linktext.specs.Lines.{load_text, shown_text, call_text, outcome_text};
 
 use frametext::push_hexadecimal;
 use link::{Answer, Event, LinkRefusal, Word};
 use loads::{LONGEST_FRAME, Load, answer_number};
 use std::alloc::{AllocError, Global};
-use std::fmt::Write;
 
 // Adds the octets of a load to a text, in hexadecimal.
 fn push_load<T: Load>(text: &mut String, load: &T) -> Result<(), AllocError>
-    ensures made { IfOk result (λ _. string_bytes text.new
-        ≡ string_bytes text.old ++ load_text T.Load load.now) }
+    ensures added { Adds text.old text.new (load_text T.Load load.now) result }
 {
     let mut octets = [0; LONGEST_FRAME];
     load.write(&mut octets).unwrap();
@@ -20,8 +19,7 @@ fn push_load<T: Load>(text: &mut String, load: &T) -> Result<(), AllocError>
 
 // Adds a word behind a space.
 fn push_word(text: &mut String, word: &str) -> Result<(), AllocError>
-    ensures made { IfOk result (λ _. string_bytes text.new
-        ≡ string_bytes text.old ++ (codes " " ++ word.now)) }
+    ensures added { Adds text.old text.new (codes " " ++ word.now) result }
 {
     text.push(' ')?;
     text.push_str(word)
@@ -32,8 +30,7 @@ fn push_shown<T: Load>(
     text: &mut String,
     answer: &Result<Answer<T>, LinkRefusal>,
 ) -> Result<(), AllocError>
-    ensures made { IfOk result (λ _. string_bytes text.new
-        ≡ string_bytes text.old ++ shown_text T.Load answer.now) }
+    ensures added { Adds text.old text.new (shown_text T.Load answer.now) result }
 {
     match answer {
         Ok(Answer::Polled(heard)) => push_word(text, heard.word()),
@@ -47,23 +44,21 @@ fn push_shown<T: Load>(
     }
 }
 
-// Adds a number. One of a single digit, as most are, needs no formatting.
-#[tactic(auto, using(std::proofs::lemmas::Fmt::decimal_digit))]
+// Adds a number, digit by digit: of a text that formatting fails to write, nothing is known.
 fn push_number(text: &mut String, number: u8) -> Result<(), AllocError>
-    ensures made { IfOk result (λ _. string_bytes text.new
-        ≡ string_bytes text.old ++ decimal number) }
+    ensures added { Adds text.old text.new (decimal number) result }
 {
     if number < 10 {
         return text.push(char::from(b'0' + number));
     }
-    write!(text, "{number}")
+    push_number(text, number / 10)?;
+    text.push(char::from(b'0' + number % 10))
 }
 
-/// Adds the letter of a call, the number of its answer, and what it shows if it is accepted. Open: whether there is memory
-/// for them, and what of them the text has if not.
+/// Adds the letter of a call, the number of its answer, and what it shows if it is accepted. Where memory is wanting, the text
+/// has a front of them at most. Open: whether it is wanting, where the text has no room.
 pub fn push_call<T: Load>(text: &mut String, event: &Event<T>) -> Result<(), AllocError>
-    ensures made { IfOk result (λ _. string_bytes text.new
-        ≡ string_bytes text.old ++ call_text T.Load event.now) }
+    ensures added { Adds text.old text.new (call_text T.Load event.now) result }
 {
     text.push(event.call.letter())?;
     text.push(' ')?;
