@@ -1,7 +1,7 @@
 //! The text of frames and of what became of them.
 use channel::{Full, Poll, Used};
 use frametext::{AnyFrame, frame_line, frame_lines, hexadecimal, use_line};
-use loads::{EmptyLoad, Frame, Load, Reading};
+use loads::{EmptyLoad, Fault, Frame, Load, Reading};
 use std::alloc::Global;
 use std::process::Abort;
 use std::test::Fail;
@@ -42,6 +42,20 @@ const LINES: [(&[u8], &str); 6] = [
 fn lines_say_what_octets_spell(rt: HostRuntime) -> Result<(), Fail> {
     for (octets, line) in LINES {
         assert_eq!(rt; frame_line(rt.alloc(), "input", octets)?.as_str(), line);
+    }
+    Ok(())
+}
+
+// Octets of a kind that no load has, as many as the longest frame has, and one more; and what turns them down.
+const NO_FRAMES: [(&[u8], Fault); 2] = [
+    (&[0x1F; 32], Fault::WrongKind),
+    (&[0x1F; 33], Fault::WrongLength),
+];
+
+#[test]
+fn too_many_octets_go_before_the_kind(rt: HostRuntime) -> Result<(), Fail> {
+    for (octets, fault) in NO_FRAMES {
+        assert!(rt; AnyFrame::read(octets).err() == Some(fault));
     }
     Ok(())
 }
