@@ -2,14 +2,16 @@
 use Rattle.std.specs.Prelude.{◌≡◌, ◌+◌, ◌<◌, ◌≤◌, ℕ, List, ◌++◌, Result, length, take, OnOk, OnErr, String, string_bytes, string_len, string_capacity}
 
 module _ {A : Type 0} where
-  -- memory was wanting: of what was to be added the text has a front, which is not all, and it had no room for all
+  -- memory was wanting: behind what it had the text has a front of what was to be added, which is
+  -- not all of it, and its room was too small for all
   pub record IsCutShort (old new : String A) (added : List ℕ) : Type 0 where
     pub count : ℕ
     pub front : string_bytes new ≡ string_bytes old ++ take count added
     pub short : count < length added
     pub full : string_capacity old < string_len old + length added
 
-  -- the text has all of it behind what it had, or memory was wanting; its room does not shrink
+  -- behind what it had the text has all that was to be added, or memory was wanting; its room does
+  -- not shrink
   pub record Adds {X E : Type 0} (old new : String A) (added : List ℕ) (result : Result X E) : Type 0 where
     pub made : OnOk result (string_bytes new ≡ string_bytes old ++ added)
     pub memory : OnErr result (IsCutShort old new added)

@@ -27,7 +27,8 @@ of_kind kind octets =
 abbrev pub longest_frame : ℕ
 longest_frame = 32
 
--- the frame that octets spell; none at all are too few for every kind, and more than any frame has are too many
+-- the frame that octets spell; none at all are too few for every kind, and more than the longest
+-- frame has are too many
 abbrev pub any_reads : List ℕ → Result AnyFrame Fault
 any_reads [] = Err WrongLength
 any_reads (first ∷ others) =

@@ -55,8 +55,9 @@ fn push_number(text: &mut String, number: u8) -> Result<(), AllocError>
     text.push(char::from(b'0' + number % 10))
 }
 
-/// Adds the letter of a call, the number of its answer, and what it shows if it is accepted. Where memory is wanting, the text
-/// has a front of them at most. Open: whether it is wanting, where the text has no room.
+/// Adds the letter of a call, the number of its answer, and what it shows if it is accepted. Where
+/// memory is wanting, the text has a front of them, and not all. Open: whether it is wanting, where
+/// the text has no room for them.
 pub fn push_call<T: Load>(text: &mut String, event: &Event<T>) -> Result<(), AllocError>
     ensures added { Adds text.old text.new (call_text T.Load event.now) result }
 {
