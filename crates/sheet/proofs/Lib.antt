@@ -1,3 +1,9 @@
+pub mod OctetLaws
+pub mod RecordLaws
 pub mod InTurn
 pub mod SectionLaws
+pub mod ListLaws
 pub mod LayoutLaws
+pub mod SheetLaws
+pub mod Findings
+pub mod FirstFaults

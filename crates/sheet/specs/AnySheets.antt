@@ -9,7 +9,8 @@ use Rattle.sheet.specs.declared.layouts.LoadKind.{LoadKind}
 use Rattle.sheet.specs.declared.layouts.LoadKind.TheVariants.{Reading, Piece}
 use Rattle.sheet.specs.Faults.{and_then}
 use Rattle.sheet.specs.Layouts.{LayoutState, layout_reads, octets_of}
-use Rattle.sheet.specs.Sheets.{sheet_read, Covers}
+use Rattle.sheet.specs.Sheets.{sheet_read}
+use Rattle.sheet.specs.Spellings.{IsSpelled}
 
 -- the sheet of a layout, by the kind of load
 abbrev pub sheet_by_kind : LoadKind → LayoutState → Result AnySheet SheetFault
@@ -25,7 +26,7 @@ abbrev pub HasOctetsBefore : Result LayoutState SheetFault → Type 0
 HasOctetsBefore (Ok layout) = 0 < length (octets_of layout.sections)
 HasOctetsBefore (Err fault) = ⊥
 
--- the parts of a sheet cover it
-abbrev pub IsCovered : AnySheet → List ℕ → Type 0
-IsCovered (Readings sheet) octets = Covers sheet.parts octets
-IsCovered (Pieces sheet) octets = Covers sheet.parts octets
+-- the sheet that octets spell: of readings, whose octet kind is 1, or of pieces, whose is 2
+abbrev pub IsSheetOf : AnySheet → List ℕ → Type 0
+IsSheetOf (Readings sheet) octets = IsSpelled readings sheet octets
+IsSheetOf (Pieces sheet) octets = IsSpelled pieces sheet octets

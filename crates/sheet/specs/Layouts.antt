@@ -71,15 +71,30 @@ distances_fit place trailer =
 abbrev pub start_of : ℕ → List ℕ → List ℕ → ℕ
 start_of list lists trailer = length lists - distance list trailer
 
+-- the octets of the book
+abbrev pub book_octets : List ℕ → List ℕ → List ℕ
+book_octets lists trailer = take (start_of 1 lists trailer) lists
+
+-- of K's marks
+abbrev pub to_hut_octets : List ℕ → List ℕ → List ℕ
+to_hut_octets lists trailer =
+    slice_range lists (start_of 1 lists trailer) (start_of 2 lists trailer)
+
+-- of L's marks
+abbrev pub back_octets : List ℕ → List ℕ → List ℕ
+back_octets lists trailer = slice_range lists (start_of 2 lists trailer) (start_of 3 lists trailer)
+
+-- of the calls
+abbrev pub calls_octets : List ℕ → List ℕ → List ℕ
+calls_octets lists trailer = drop (start_of 3 lists trailer) lists
+
 -- the four lists
 abbrev pub sections_of : List ℕ → List ℕ → List SectionState
 sections_of lists trailer =
-    section_of section.Book 0 (take (start_of 1 lists trailer) lists)
-    ∷ section_of (section.Marks ToHut) (start_of 1 lists trailer)
-    (slice_range lists (start_of 1 lists trailer) (start_of 2 lists trailer))
-    ∷ section_of (section.Marks Back) (start_of 2 lists trailer)
-    (slice_range lists (start_of 2 lists trailer) (start_of 3 lists trailer))
-    ∷ section_of section.Calls (start_of 3 lists trailer) (drop (start_of 3 lists trailer) lists)
+    section_of section.Book 0 (book_octets lists trailer)
+    ∷ section_of (section.Marks ToHut) (start_of 1 lists trailer) (to_hut_octets lists trailer)
+    ∷ section_of (section.Marks Back) (start_of 2 lists trailer) (back_octets lists trailer)
+    ∷ section_of section.Calls (start_of 3 lists trailer) (calls_octets lists trailer)
     ∷ []
 
 -- what a trailer behind lists says

@@ -4,4 +4,6 @@ pub mod Records
 pub mod Sections
 pub mod Layouts
 pub mod Sheets
+pub mod Spellings
+pub mod Conditions
 pub mod AnySheets

@@ -37,14 +37,3 @@ module _ {T : Type 0} where
   abbrev pub sheet_read : Ghosts T → LayoutState → Result (SheetParts T) SheetFault
   sheet_read kind layout =
       and_then (sections_read kind layout.sections) (λ parts. Ok (sheet_of layout.repeats parts))
-
-  -- parts that start at a place, each where the one before it ends
-  abbrev pub AreInPlaces : ℕ → List (PartState T) → Type 0
-  AreInPlaces place [] = Unit {0}
-  AreInPlaces place (part ∷ parts) =
-      (part.place ≡ place) × AreInPlaces (place + length part.octets) parts
-
-  -- nothing is skipped and nothing overlaps: the parts in order, and the trailer behind them, are the sheet
-  pub record Covers (parts : List (PartState T)) (octets : List ℕ) : Type 0 where
-    pub whole : flat_map (λ part. part.octets) parts ++ trailer_of octets ≡ octets
-    pub in_places : AreInPlaces 0 parts

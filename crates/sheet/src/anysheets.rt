@@ -1,7 +1,8 @@
 //! A sheet of whichever kind of load its trailer names.
 ghost use Rattle.std.specs.Prelude.{◌≡◌, Ok, MatchResult, IfOk, IfErr};
 ghost use Rattle.std.specs.Result.{IsOk};
-ghost use Rattle.sheet.specs.AnySheets.{sheet_reads, HasOctetsBefore, IsCovered};
+ghost use Rattle.sheet.specs.AnySheets.{sheet_reads, HasOctetsBefore, IsSheetOf};
+ghost use Rattle.sheet.specs.Conditions.{HasNoFault, IsReason};
 ghost use Rattle.sheet.specs.declared.faults.ReadError.TheVariants.{NoMemory};
 ghost use Rattle.sheet.specs.Faults.{Fails};
 ghost use Rattle.sheet.specs.Layouts.{layout_reads};
@@ -31,7 +32,10 @@ impl<'s> AnySheet<'s> {
         ensures memory { IfErr result
             (λ error. error ≡ NoMemory → HasOctetsBefore (layout_reads octets.now)) }
         ensures good { IfErr result (λ error. error ≡ NoMemory → IsOk (sheet_reads octets.now)) }
-        ensures law { IfOk result (λ sheet. IsCovered sheet octets.now) }
+        ensures spelled { IfOk result (λ sheet. IsSheetOf sheet octets.now) }
+        ensures first { MatchResult result
+            (λ _. HasNoFault octets.now)
+            (λ error. IsReason octets.now error) }
     {
         let layout = Layout::read(octets)?;
         match layout.kind {
