@@ -19,7 +19,7 @@ use Rattle.sheet.specs.declared.faults.SheetRefusal.TheVariants.{NoLoad, BadMark
 use Rattle.sheet.specs.declared.parts.Way.{Way}
 use Rattle.sheet.specs.declared.sections.SectionKind.{SectionKind}
 use Rattle.sheet.specs.declared.sections.SectionKind.TheVariants as section
-use Rattle.sheet.specs.Conditions.{HasNoLoad, HasBadMark, BeginsWithNoCall, HasBadCall}
+use Rattle.sheet.specs.Conditions.{HasNoLoad, HasBadMark, BeginWithNoCall, HasBadCall}
 use Rattle.sheet.specs.Faults.{fault_at, and_then}
 use Rattle.sheet.specs.Parts.{Meaning, a_load, a_mark, a_call, PartState}
 use Rattle.sheet.specs.Records.{refusal_of, first_mark, first_call, first_request, first_meaning, plain_call, record_size, record_with, request_letter}
@@ -54,11 +54,11 @@ mark_back room start octet octets place (others, at, less, inl above) = (suc oth
 mark_back room start octet octets place (others, at, less, inr many) = (suc others, omega arith, omega arith, inr (omega arith))
 
 -- one call more
-fewer : (room : ℕ) (others : List Call) (rest : List ℕ) → (BeginsWithNoCall rest) ⊎ (suc (length others) ≡ suc room) → (BeginsWithNoCall rest) ⊎ (length others ≡ room)
+fewer : (room : ℕ) (others : List Call) (rest : List ℕ) → (BeginWithNoCall rest) ⊎ (suc (length others) ≡ suc room) → (BeginWithNoCall rest) ⊎ (length others ≡ room)
 fewer room others rest (inl none) = inl none
 fewer room others rest (inr many) = inr (omega arith)
 
-more : (room : ℕ) (others : List Call) (rest : List ℕ) → (BeginsWithNoCall rest) ⊎ (length others ≡ room) → (BeginsWithNoCall rest) ⊎ (suc (length others) ≡ suc room)
+more : (room : ℕ) (others : List Call) (rest : List ℕ) → (BeginWithNoCall rest) ⊎ (length others ≡ room) → (BeginWithNoCall rest) ⊎ (suc (length others) ≡ suc room)
 more room others rest (inl none) = inl none
 more room others rest (inr many) = inr (omega arith)
 
@@ -81,14 +81,14 @@ not_found (Request start count) octet none fails same = search (rules, subst (λ
 not_found call octet none fails same = search (rules, subst (λ octet. plain_call octet ≡ None) (sym same) none)
 
 -- octets that are not read begin with no call
-no_call : (octet : ℕ) (octets : List ℕ) → first_call (octet ∷ octets) ≡ None → BeginsWithNoCall (octet ∷ octets)
+no_call : (octet : ℕ) (octets : List ℕ) → first_call (octet ∷ octets) ≡ None → BeginWithNoCall (octet ∷ octets)
 no_call octet octets is = by_test (octet == request_letter) (first_request (octet ∷ octets)) (plain_call octet) None is
     (λ passes none. inr (search (rules, tests, passes), search (rules, tests, none)))
     (λ fails none. inl (λ call same. not_found call octet none fails same))
 
 module _ (octet : ℕ) (octets : List ℕ) (call : Call) (size : ℕ) (sized : size ≡ length (call_spelled call)) (same : letter call ≡ octet) (spelled : take size (octet ∷ octets) ≡ call_spelled call) where
   -- and those that are read do not
-  some_call : BeginsWithNoCall (octet ∷ octets) → ⊥
+  some_call : BeginWithNoCall (octet ∷ octets) → ⊥
   some_call (inl none) = none call same
   some_call (inr (q, short)) =
       let five : length (call_spelled call) ≡ 5 = same_size call (Request 0 0) (same ∙ q) in
@@ -97,7 +97,7 @@ module _ (octet : ℕ) (octets : List ℕ) (call : Call) (size : ℕ) (sized : s
 
   -- no call behind a call
   call_there : (room start place : ℕ) → HasBadCall (suc room) start (octet ∷ octets) place → HasBadCall room (start + length (take size (octet ∷ octets))) (drop size (octet ∷ octets)) place
-  call_there room start place ([], rest, whole, at, some, inl none) = absurd (some_call (subst BeginsWithNoCall (sym whole) none))
+  call_there room start place ([], rest, whole, at, some, inl none) = absurd (some_call (subst BeginWithNoCall (sym whole) none))
   call_there room start place ([], rest, whole, at, some, inr many) = absurd (omega arith)
   call_there room start place (other ∷ others, rest, whole, at, some, bad) =
       let behind = flat_map call_spelled others in

@@ -15,7 +15,7 @@ use Rattle.sheet.specs.Layouts.{LayoutState, trailer_size, most_octets, trailer_
 use Rattle.sheet.specs.Parts.{PartState}
 use Rattle.sheet.specs.Sections.{SectionState, section_of, most_calls, section_reads, sections_read}
 use Rattle.sheet.specs.Sheets.{SheetParts, sheet_of, sheet_read}
-use Rattle.sheet.specs.Spellings.{IsSpelled, Spells, list_of, octets_in, size_in}
+use Rattle.sheet.specs.Spellings.{IsSpelled, Spells, list_of, octets_in, size_in, trailer_spelled}
 use Rattle.sheet.proofs.ListLaws.{lists_are, trailer_back}
 use Rattle.sheet.proofs.OctetLaws.{AreOctets}
 use Rattle.sheet.proofs.RecordLaws.{IsSized, list_number}
@@ -185,11 +185,12 @@ module _ {T : Type 0} where
       let d0 : size_in 0 parts + size_in 1 parts + size_in 2 parts + size_in 3 parts ≡ distance 0 trailer = omega (arith, book_size, sizes.book, out.ordered.book, d1) in
       let P = λ (part : PartState T). Spells kind part.octets part.meaning in
       let all_spelled = All-append P (four.book ++ four.to_hut ++ four.back) four.calls (All-append P (four.book ++ four.to_hut) four.back (All-append P four.book four.to_hut (spells section.Book four.book book_are) (spells (section.Marks ToHut) four.to_hut to_hut_are)) (spells (section.Marks Back) four.back back_are)) (spells section.Calls four.calls calls_are) in
+      let spelled : trailer_spelled kind layout.repeats parts ≡ trailer =
+      (λ i. number_octets 4 (d0 i) ++ number_octets 4 (d1 i) ++ number_octets 4 (d2 i) ++ number_octets 4 (d3 i) ++ sym named i ∷ out.repeats i ∷ []) ∙ trailer_back trailer (omega (arith, out.enough, length-drop (trailer_place octets) octets)) (All-drop small (trailer_place octets) octets below) in
       subst (λ sheet. IsSpelled kind sheet octets) (search (rules, made)) (record {
-        whole = ap (λ lists. lists ++ trailer_of octets) (have.covers ∙ ap octets_of out.sections ∙ whole) ∙ take-append-drop (trailer_place octets) octets;
+        whole = ap (λ trailer. octets_in parts ++ trailer) spelled ∙ ap (λ lists. lists ++ trailer) (have.covers ∙ ap octets_of out.sections ∙ whole) ∙ take-append-drop (trailer_place octets) octets;
         in_places = have.placed 0 (rw out.sections placed);
         in_order = (λ i. placed_in.in_book i ++ placed_in.in_to_hut i ++ placed_in.in_back i ++ placed_in.in_calls i) ∙ placed_in.all;
         spelled = subst (λ parts. All P parts) four.all all_spelled;
-        trailer = sym ((λ i. number_octets 4 (d0 i) ++ number_octets 4 (d1 i) ++ number_octets 4 (d2 i) ++ number_octets 4 (d3 i) ++ sym named i ∷ out.repeats i ∷ []) ∙ trailer_back trailer (omega (arith, out.enough, length-drop (trailer_place octets) octets)) (All-drop small (trailer_place octets) octets below));
         gives = refl;
       })

@@ -1,5 +1,5 @@
 -- What the sheets of each kind of load have.
-use Rattle.std.proofs.Common.{◌≡◌, ℕ, ◌<◌, List, Ok, Some, get_or, slice_index, subst, ap, sym, ◌∙◌, rules, tests, arith}
+use Rattle.std.proofs.Common.{◌≡◌, inl, inr, ℕ, ◌<◌, List, Ok, Some, get_or, slice_index, subst, ap, sym, ◌∙◌, rules, tests, arith}
 use Rattle.std.proofs.lemmas.List.Elements.{All-from_get_or}
 use Rattle.loads.specs.declared.kinds.Load.{Ghosts}
 use Rattle.loads.specs.declared.pieces.Piece.{Piece as APiece}
@@ -8,8 +8,7 @@ use Rattle.loads.specs.Pieces.{piece_kind, pieces}
 use Rattle.loads.specs.Readings.{reading_kind, readings}
 use Rattle.sheet.specs.declared.layouts.LoadKind.{LoadKind}
 use Rattle.sheet.specs.declared.layouts.LoadKind.TheVariants.{Reading, Piece}
-use Rattle.sheet.specs.Conditions.{HasNoLoadOf}
-use Rattle.sheet.specs.Layouts.{LayoutState, kind_at, load_kind, lists_of, trailer_of, book_octets, layout_reads}
+use Rattle.sheet.specs.Layouts.{LayoutState, kind_at, load_kind, trailer_of, layout_reads}
 use Rattle.sheet.specs.Sheets.{SheetParts, sheet_read}
 use Rattle.sheet.specs.Spellings.{IsSpelled}
 use Rattle.sheet.proofs.FirstFaults.{Verdict, sheet_verdict}
@@ -35,27 +34,29 @@ piece_named : (octet : ℕ) → load_kind octet ≡ Some Piece → octet ≡ pie
 piece_named octet is = search (rules, tests)
 
 module _ (octets : List ℕ) (below : AreOctets octets) (layout : LayoutState) (laid : layout_reads octets ≡ Ok layout) where
-  -- where a book has no load, by the kind of the layout
-  abbrev NoLoadAt : LoadKind → ℕ → Type 0
-  NoLoadAt kind place = HasNoLoadOf (Some kind) 0 (book_octets (lists_of octets) (trailer_of octets)) place
-
   kind_is : (kind : LoadKind) → layout.kind ≡ kind → load_kind (slice_index (trailer_of octets) kind_at) ≡ Some kind
   kind_is kind is = (layout_read octets layout laid).kind ∙ ap Some is
 
-  there : (kind : LoadKind) → layout.kind ≡ kind → (place : ℕ) → HasNoLoadOf (load_kind (slice_index (trailer_of octets) kind_at)) 0 (book_octets (lists_of octets) (trailer_of octets)) place → NoLoadAt kind place
-  there kind is place = subst (λ kind. HasNoLoadOf kind 0 (book_octets (lists_of octets) (trailer_of octets)) place) (kind_is kind is)
+  is_reading : layout.kind ≡ Reading → slice_index (trailer_of octets) kind_at ≡ reading_kind
+  is_reading is = reading_named _ (kind_is Reading is)
 
-  back : (kind : LoadKind) → layout.kind ≡ kind → (place : ℕ) → NoLoadAt kind place → HasNoLoadOf (load_kind (slice_index (trailer_of octets) kind_at)) 0 (book_octets (lists_of octets) (trailer_of octets)) place
-  back kind is place = subst (λ kind. HasNoLoadOf kind 0 (book_octets (lists_of octets) (trailer_of octets)) place) (sym (kind_is kind is))
+  is_piece : layout.kind ≡ Piece → slice_index (trailer_of octets) kind_at ≡ piece_kind
+  is_piece is = piece_named _ (kind_is Piece is)
 
   pub readings_spelled : layout.kind ≡ Reading → (sheet : SheetParts AReading) → sheet_read readings layout ≡ Ok sheet → IsSpelled readings sheet octets
-  readings_spelled is sheet read = sheet_spelled readings readings_sized octets below layout sheet laid (reading_named _ (kind_is Reading is)) read
+  readings_spelled is sheet read = sheet_spelled readings readings_sized octets below layout sheet laid (is_reading is) read
 
   pub pieces_spelled : layout.kind ≡ Piece → (sheet : SheetParts APiece) → sheet_read pieces layout ≡ Ok sheet → IsSpelled pieces sheet octets
-  pieces_spelled is sheet read = sheet_spelled pieces pieces_sized octets below layout sheet laid (piece_named _ (kind_is Piece is)) read
+  pieces_spelled is sheet read = sheet_spelled pieces pieces_sized octets below layout sheet laid (is_piece is) read
 
   pub readings_verdict : layout.kind ≡ Reading → Verdict octets (sheet_read readings layout)
-  readings_verdict is = sheet_verdict octets layout laid below readings readings_sized (omega arith) (there Reading is) (back Reading is)
+  readings_verdict is = sheet_verdict octets layout laid below readings readings_sized (omega arith) (λ place applies. elim applies [
+    | inl (reading, here) ↦ here
+    | inr (piece, here) ↦ absurd (omega (arith, is_reading is, piece))
+  ]) (λ place here. inl (is_reading is, here))
 
   pub pieces_verdict : layout.kind ≡ Piece → Verdict octets (sheet_read pieces layout)
-  pieces_verdict is = sheet_verdict octets layout laid below pieces pieces_sized (omega arith) (there Piece is) (back Piece is)
+  pieces_verdict is = sheet_verdict octets layout laid below pieces pieces_sized (omega arith) (λ place applies. elim applies [
+    | inl (reading, here) ↦ absurd (omega (arith, is_piece is, reading))
+    | inr (piece, here) ↦ here
+  ]) (λ place here. inr (is_piece is, here))

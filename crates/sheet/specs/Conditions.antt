@@ -1,5 +1,5 @@
 -- What turns a sheet down, by number and place, and which of several is said.
-use Rattle.std.specs.Prelude.{◌≡◌, ◌≢◌, ◌⊎◌, ℕ, ◌+◌, ◌*◌, ◌<◌, ◌≤◌, List, [], ◌∷◌, ◌++◌, length, take, drop, slice_index, Some, None, Option, IsErr}
+use Rattle.std.specs.Prelude.{◌≡◌, ◌≢◌, ◌⊎◌, ℕ, ◌+◌, ◌*◌, ◌<◌, ◌≤◌, List, [], ◌∷◌, ◌++◌, length, take, drop, slice_index, IsErr}
 use Rattle.std.specs.List.{flat_map}
 use Rattle.std.specs.Str.{byte}
 use Rattle.loads.specs.declared.kinds.Load.{Ghosts}
@@ -14,69 +14,64 @@ use Rattle.sheet.specs.declared.faults.ReadError.TheVariants.{Refused, NoMemory}
 use Rattle.sheet.specs.declared.faults.SheetFault.{SheetFault}
 use Rattle.sheet.specs.declared.faults.SheetRefusal.{SheetRefusal}
 use Rattle.sheet.specs.declared.faults.SheetRefusal.TheVariants.{WrongSize, BadSetting, BadDistances, NoLoad, BadMark, BadCall}
-use Rattle.sheet.specs.declared.layouts.LoadKind.{LoadKind}
-use Rattle.sheet.specs.declared.layouts.LoadKind.TheVariants.{Reading, Piece}
 use Rattle.sheet.specs.Faults.{number_of}
-use Rattle.sheet.specs.Layouts.{trailer_size, most_octets, trailer_place, lists_of, trailer_of, distance, start_of, kind_at, repeats_at, load_kind, book_octets, to_hut_octets, back_octets, calls_octets}
+use Rattle.sheet.specs.Layouts.{trailer_size, most_octets, trailer_place, lists_of, trailer_of, distance, start_of, kind_at, repeats_at, book_octets, to_hut_octets, back_octets, calls_octets}
 use Rattle.sheet.specs.Sections.{most_calls}
 use Rattle.sheet.specs.Spellings.{call_spelled}
 
--- a book from a start on has, behind others, a record that spells no load: it is cut short by the end of the book, or the
--- kind refuses it
+-- a book that starts at a place has at another, behind others, a record that spells no load: the end of the book cuts it
+-- short, or the kind refuses it
 abbrev pub HasNoLoad : {T : Type 0} → Ghosts T → ℕ → List ℕ → ℕ → Type 0
 HasNoLoad kind start book place =
     (others : ℕ) × (place ≡ start + kind.SIZE * others) × (kind.SIZE * others < length book)
     × IsErr (kind.reads (take kind.SIZE (drop (kind.SIZE * others) book)))
 
--- the same for the kind of load that the octet kind names
-abbrev pub HasNoLoadOf : Option LoadKind → ℕ → List ℕ → ℕ → Type 0
-HasNoLoadOf (Some Reading) start book place = HasNoLoad readings start book place
-HasNoLoadOf (Some Piece) start book place = HasNoLoad pieces start book place
-HasNoLoadOf None start book place = ⊥
-
--- marks from a start on have, behind others, one that is above 2 or one too many
+-- marks that start at a place have at another, behind others, one that is above 2, or one too many
 abbrev pub HasBadMark : ℕ → ℕ → List ℕ → ℕ → Type 0
 HasBadMark most start marks place =
     (others : ℕ) × (place ≡ start + others) × (others < length marks)
     × ((2 < slice_index marks others) ⊎ (others ≡ most))
 
--- octets that begin with no call: with the letter of none, or with Q and fewer than four octets behind it
-abbrev pub BeginsWithNoCall : List ℕ → Type 0
-BeginsWithNoCall [] = ⊥
-BeginsWithNoCall (octet ∷ octets) =
+-- octets begin with no call: with the letter of none, or with Q and fewer than four octets behind it
+abbrev pub BeginWithNoCall : List ℕ → Type 0
+BeginWithNoCall [] = ⊥
+BeginWithNoCall (octet ∷ octets) =
     ((call : Call) → letter call ≢ octet) ⊎ ((octet ≡ byte "Q") × (length octets < 4))
 
--- calls from a start on have, behind others, octets that begin with none or with one too many
+-- calls that start at a place have at another, behind others, octets that begin with no call, or with one too many
 abbrev pub HasBadCall : ℕ → ℕ → List ℕ → ℕ → Type 0
 HasBadCall most start calls place =
     (others : List Call) × (rest : List ℕ) × (calls ≡ flat_map call_spelled others ++ rest)
     × (place ≡ start + length (flat_map call_spelled others)) × (0 < length rest)
-    × (BeginsWithNoCall rest ⊎ (length others ≡ most))
+    × (BeginWithNoCall rest ⊎ (length others ≡ most))
 
--- the condition of a number applies to a sheet at a place: by its octets, and by its lists and its trailer
+-- what turns a sheet down applies at a place of its octets, which are its lists and its trailer
 abbrev pub Applies : SheetRefusal → ℕ → List ℕ → List ℕ → List ℕ → Type 0
 Applies WrongSize place octets lists trailer =
     (place ≡ length octets) × ((length octets < trailer_size) ⊎ (most_octets < length octets))
 Applies BadSetting place octets lists trailer =
-    ((place ≡ length lists + kind_at) × (slice_index trailer kind_at ≢ reading_kind) × (slice_index trailer kind_at ≢ piece_kind))
+    ((place ≡ length lists + kind_at)
+    × (slice_index trailer kind_at ≢ reading_kind) × (slice_index trailer kind_at ≢ piece_kind))
     ⊎ ((place ≡ length lists + repeats_at) × (most_repeats < slice_index trailer repeats_at))
-Applies BadDistances place octets lists trailer = (place ≡ length lists)
+Applies BadDistances place octets lists trailer =
+    (place ≡ length lists)
     × ((distance 0 trailer ≢ length lists)
     ⊎ ((list : ℕ) × (list < 3) × (distance list trailer < distance (list + 1) trailer)))
 Applies NoLoad place octets lists trailer =
-    HasNoLoadOf (load_kind (slice_index trailer kind_at)) 0 (book_octets lists trailer) place
+    ((slice_index trailer kind_at ≡ reading_kind) × HasNoLoad readings 0 (book_octets lists trailer) place)
+    ⊎ ((slice_index trailer kind_at ≡ piece_kind) × HasNoLoad pieces 0 (book_octets lists trailer) place)
 Applies BadMark place octets lists trailer =
     HasBadMark most_marks (start_of 1 lists trailer) (to_hut_octets lists trailer) place
     ⊎ HasBadMark most_marks (start_of 2 lists trailer) (back_octets lists trailer) place
 Applies BadCall place octets lists trailer =
     HasBadCall most_calls (start_of 3 lists trailer) (calls_octets lists trailer) place
 
--- a fault of octets: the condition of its number applies at its place
+-- a fault of octets: what it says applies where it says
 abbrev pub IsFaultOf : List ℕ → SheetFault → Type 0
 IsFaultOf octets fault =
     Applies fault.refusal fault.place octets (lists_of octets) (trailer_of octets)
 
--- a fault before another, or the same: by number, and of one number by place
+-- a fault is before another, or as early: by number, and of one number by place
 abbrev pub IsNotAfter : SheetFault → SheetFault → Type 0
 IsNotAfter fault other =
     (number_of fault.refusal < number_of other.refusal)
@@ -86,7 +81,7 @@ IsNotAfter fault other =
 abbrev pub HasNoFault : List ℕ → Type 0
 HasNoFault octets = (fault : SheetFault) → IsFaultOf octets fault → ⊥
 
--- the first fault of octets
+-- the first fault of octets: theirs, and no other is before it
 abbrev pub IsFirstFault : List ℕ → SheetFault → Type 0
 IsFirstFault octets fault =
     IsFaultOf octets fault × ((other : SheetFault) → IsFaultOf octets other → IsNotAfter fault other)

@@ -9,7 +9,6 @@ use Rattle.link.specs.declared.calls.Call.{Call}
 use Rattle.link.specs.declared.calls.Call.TheVariants.{Request}
 use Rattle.link.specs.Words.{letter}
 use Rattle.sheet.specs.declared.parts.Way.TheVariants.{ToHut, Back}
-use Rattle.sheet.specs.Layouts.{trailer_of}
 use Rattle.sheet.specs.Parts.{Meaning, a_load, a_mark, a_call, PartState}
 use Rattle.sheet.specs.Sheets.{SheetParts, sheet_of}
 
@@ -51,7 +50,7 @@ module _ {T : Type 0} where
   abbrev pub size_in : ℕ → List (PartState T) → ℕ
   size_in list parts = length (octets_in (in_list list parts))
 
-  -- the trailer behind records: of each list how many octets it and those behind it have, the kind, the repeats
+  -- the trailer behind records: for each list how many octets it and those behind it have, the kind, the repeats
   abbrev pub trailer_spelled : Ghosts T → ℕ → List (PartState T) → List ℕ
   trailer_spelled kind repeats parts =
       number_octets 4 (size_in 0 parts + size_in 1 parts + size_in 2 parts + size_in 3 parts)
@@ -67,14 +66,12 @@ module _ {T : Type 0} where
       (part.place ≡ place) × AreInPlaces (place + length part.octets) parts
 
   -- the sheet that octets spell. Nothing is skipped and nothing overlaps: the parts in order, and the trailer behind
-  -- them, are the octets. The parts stand list after list, each spells what it means, and they and the settings spell
-  -- the trailer
+  -- them, are the octets. The parts stand list after list, and each spells what it means; the rest is what they give
   pub record IsSpelled (kind : Ghosts T) (sheet : SheetParts T) (octets : List ℕ) : Type 0 where
-    pub whole : octets_in sheet.parts ++ trailer_of octets ≡ octets
+    pub whole : octets_in sheet.parts ++ trailer_spelled kind sheet.repeats sheet.parts ≡ octets
     pub in_places : AreInPlaces 0 sheet.parts
     pub in_order :
         in_list 0 sheet.parts ++ in_list 1 sheet.parts ++ in_list 2 sheet.parts ++ in_list 3 sheet.parts
         ≡ sheet.parts
     pub spelled : All (λ part. Spells kind part.octets part.meaning) sheet.parts
-    pub trailer : trailer_of octets ≡ trailer_spelled kind sheet.repeats sheet.parts
     pub gives : sheet ≡ sheet_of sheet.repeats sheet.parts

@@ -23,8 +23,9 @@ pub enum AnySheet<'s> {
 }
 
 impl<'s> AnySheet<'s> {
-    /// The sheet that octets are, or why they are none. Open: whether there is memory for it, where
-    /// they are a sheet and octets stand before the trailer.
+    /// The sheet that octets spell, or the first of what turns them down, by number and then by
+    /// place. Open: whether there is memory for it, where they are a sheet and octets stand before
+    /// the trailer.
     pub fn read(heap: Global, octets: &'s [u8]) -> Result<AnySheet<'s>, ReadError>
         ensures cases { MatchResult result
             (λ sheet. sheet_reads octets.now ≡ Ok sheet)
