@@ -1,32 +1,29 @@
 -- Where the conditions of records apply in a list that was read, or refused.
-use Rattle.std.proofs.Common.{◌≡◌, ◌⊎◌, inl, inr, ℕ, zero, suc, ◌+◌, ◌*◌, ◌<◌, ◌≤◌, ◌==◌, true, false, if◌then◌else◌, nat_le, List, [], ◌∷◌, ◌++◌, length, get_or, Ok, Err, Result, IsErr, Some, None, Option, take, drop, subst, refl, ap, sym, ◌∙◌, rules, tests, arith}
+use Rattle.std.proofs.Common.{◌≡◌, ◌⊎◌, inl, inr, ℕ, zero, suc, ◌+◌, ◌*◌, ◌<◌, ◌≤◌, ◌==◌, false, List, [], ◌∷◌, ◌++◌, length, get_or, Ok, Err, Result, IsErr, Some, None, Option, take, drop, subst, refl, ap, sym, ◌∙◌, rules, tests, arith}
 use Rattle.std.specs.List.{flat_map}
 use Rattle.std.specs.Option.{option_map}
 use Rattle.std.specs.Result.{result_ok}
-use Rattle.std.specs.Str.{byte}
 use Rattle.std.proofs.Math.Nat.{mul-suc}
 use Rattle.std.proofs.Math.Seq.{drop-append-add, drop-append_seam}
 use Rattle.std.proofs.lemmas.List.{append_assoc, length-append, length-drop, length-take, take-append-drop}
 use Rattle.std.proofs.lemmas.List.Elements.{All-drop}
-use Rattle.loads.specs.declared.faults.Fault.{Fault}
 use Rattle.loads.specs.declared.kinds.Load.{Ghosts}
 use Rattle.link.specs.declared.calls.Call.{Call}
 use Rattle.link.specs.declared.calls.Call.TheVariants.{Request}
 use Rattle.link.specs.Words.{letter}
-use Rattle.sheet.specs.declared.faults.SheetFault.{SheetFault}
 use Rattle.sheet.specs.declared.faults.SheetRefusal.{SheetRefusal}
 use Rattle.sheet.specs.declared.faults.SheetRefusal.TheVariants.{NoLoad, BadMark, BadCall}
 use Rattle.sheet.specs.declared.parts.Way.{Way}
 use Rattle.sheet.specs.declared.sections.SectionKind.{SectionKind}
 use Rattle.sheet.specs.declared.sections.SectionKind.TheVariants as section
 use Rattle.sheet.specs.Conditions.{HasNoLoad, HasBadMark, BeginWithNoCall, HasBadCall}
-use Rattle.sheet.specs.Faults.{fault_at, and_then}
+use Rattle.sheet.specs.Faults.{and_then}
 use Rattle.sheet.specs.Parts.{Meaning, a_load, a_mark, a_call, PartState}
 use Rattle.sheet.specs.Records.{refusal_of, first_mark, first_call, first_request, first_meaning, plain_call, record_size, record_with, request_letter}
 use Rattle.sheet.specs.Sections.{PartsRead, before, records_read}
 use Rattle.sheet.specs.Spellings.{call_spelled}
 use Rattle.sheet.proofs.OctetLaws.{AreOctets}
-use Rattle.sheet.proofs.RecordLaws.{IsSized, by_test, call_first, call_size}
+use Rattle.sheet.proofs.RecordLaws.{IsSized, by_test, call_first, call_size, same_size}
 
 -- by what there is
 pub by_option : {X R : Type 0} (option : Option X) → ((x : X) → option ≡ Some x → R) → (option ≡ None → R) → R
@@ -61,14 +58,6 @@ fewer room others rest (inr many) = inr (omega arith)
 more : (room : ℕ) (others : List Call) (rest : List ℕ) → (BeginWithNoCall rest) ⊎ (length others ≡ room) → (BeginWithNoCall rest) ⊎ (suc (length others) ≡ suc room)
 more room others rest (inl none) = inl none
 more room others rest (inr many) = inr (omega arith)
-
--- how many octets a call has, by its letter
-size_by_letter : (call : Call) → length (call_spelled call) ≡ (if letter call == request_letter then 5 else 1)
-size_by_letter (Request start count) = refl
-size_by_letter call = refl
-
-same_size : (one other : Call) → letter one ≡ letter other → length (call_spelled one) ≡ length (call_spelled other)
-same_size one other same = size_by_letter one ∙ ap (λ letter. if letter == request_letter then 5 else 1) same ∙ sym (size_by_letter other)
 
 -- a call begins with its letter
 begins : (call : Call) (behind : List ℕ) (octet : ℕ) (octets : List ℕ) → octet ∷ octets ≡ call_spelled call ++ behind → letter call ≡ octet

@@ -1,5 +1,5 @@
 -- The first fault of a sheet that is turned down, and that one that is read has none.
-use Rattle.std.proofs.Common.{◌≡◌, ◌≢◌, ◌⊎◌, inl, inr, Bool, ℕ, zero, suc, ◌+◌, ◌-◌, ◌<◌, ◌≤◌, ◌==◌, ◌&&◌, ◌||◌, true, false, if◌then◌else◌, nat_le, nat_lt, List, [], ◌∷◌, length, slice_index, Ok, Err, Result, MatchResult, Some, None, Option, take, drop, subst, refl, ap, sym, ◌∙◌, rules, tests, arith}
+use Rattle.std.proofs.Common.{◌≡◌, ◌≢◌, ◌⊎◌, inl, inr, Bool, ℕ, zero, suc, ◌+◌, ◌<◌, ◌≤◌, ◌==◌, ◌&&◌, ◌||◌, true, false, if◌then◌else◌, nat_le, nat_lt, List, [], ◌∷◌, length, slice_index, Ok, Err, Result, MatchResult, Some, None, subst, refl, ap, sym, ◌∙◌, rules, tests, arith}
 use Rattle.std.specs.Result.{IsOk}
 use Rattle.std.proofs.Math.Nat.{eq-or-lt_of_le}
 use Rattle.std.proofs.lemmas.Bool.Decides.{leb_tells, eqb_tells}
@@ -18,12 +18,12 @@ use Rattle.sheet.specs.declared.layouts.LoadKind.{LoadKind}
 use Rattle.sheet.specs.declared.parts.Way.TheVariants.{ToHut, Back}
 use Rattle.sheet.specs.Conditions.{HasNoLoad, HasBadMark, HasBadCall, IsFaultOf, IsNotAfter, HasNoFault, IsFirstFault, IsReason}
 use Rattle.sheet.specs.Faults.{number_of, fault_at, and_then, Fails}
-use Rattle.sheet.specs.Layouts.{LayoutState, trailer_size, most_octets, trailer_place, lists_of, trailer_of, distance, start_of, kind_at, repeats_at, load_kind, distances_fit, book_octets, to_hut_octets, back_octets, calls_octets, sections_of, settings_read, layout_reads, layout_of}
+use Rattle.sheet.specs.Layouts.{LayoutState, trailer_size, most_octets, trailer_place, lists_of, trailer_of, distance, start_of, kind_at, repeats_at, load_kind, distances_fit, book_octets, sections_of, settings_read, layout_reads, layout_of}
 use Rattle.sheet.specs.Parts.{PartState}
 use Rattle.sheet.specs.Sections.{PartsRead, before, section_reads, sections_read, most_calls}
-use Rattle.sheet.specs.Sheets.{SheetParts, sheet_of, sheet_read}
+use Rattle.sheet.specs.Sheets.{sheet_of, sheet_read}
 use Rattle.sheet.proofs.Findings.{Tells, by_option, book_tells, marks_tell, calls_tell}
-use Rattle.sheet.proofs.LayoutLaws.{IsRead, AreOrdered, layout_read, lists_sized, book_of, to_hut_of, back_of, calls_of}
+use Rattle.sheet.proofs.LayoutLaws.{AreOrdered, layout_read, lists_sized, book_of, to_hut_of, back_of, calls_of}
 use Rattle.sheet.proofs.OctetLaws.{AreOctets}
 use Rattle.sheet.proofs.RecordLaws.{IsSized, by_test}
 

@@ -14,7 +14,7 @@ use Rattle.sheet.specs.declared.sections.SectionKind.TheVariants as section
 use Rattle.sheet.specs.Layouts.{LayoutState, trailer_size, most_octets, trailer_place, trailer_of, lists_of, distance, kind_at, repeats_at, load_kind, start_of, book_octets, to_hut_octets, back_octets, calls_octets, sections_of, layout_reads, octets_of}
 use Rattle.sheet.specs.Parts.{PartState}
 use Rattle.sheet.specs.Sections.{SectionState, section_of, most_calls, section_reads, sections_read}
-use Rattle.sheet.specs.Sheets.{SheetParts, sheet_of, sheet_read}
+use Rattle.sheet.specs.Sheets.{SheetParts, sheet_read}
 use Rattle.sheet.specs.Spellings.{IsSpelled, Spells, list_of, octets_in, size_in, trailer_spelled}
 use Rattle.sheet.proofs.ListLaws.{lists_are, trailer_back}
 use Rattle.sheet.proofs.OctetLaws.{AreOctets}

@@ -1,10 +1,9 @@
 -- What was read at the front of octets is spelled there.
-use Rattle.std.proofs.Common.{◌≡◌, ℕ, zero, suc, ◌+◌, ◌<◌, ◌≤◌, Bool, true, false, ◌==◌, if◌then◌else◌, nat_le, List, [], ◌∷◌, ◌++◌, length, Ok, Err, Result, Some, None, Option, take, drop, subst, refl, ap, sym, ◌∙◌, rules, tests, arith}
+use Rattle.std.proofs.Common.{◌≡◌, ℕ, zero, suc, ◌<◌, ◌≤◌, Bool, true, false, ◌==◌, if◌then◌else◌, nat_le, List, [], ◌∷◌, ◌++◌, length, Ok, Err, Result, Some, None, Option, take, drop, subst, refl, ap, sym, ◌∙◌, rules, tests, arith}
 use Rattle.std.specs.List.{find, AllByRecursion}
 use Rattle.std.specs.Option.{option_map}
 use Rattle.std.specs.Result.{result_ok}
 use Rattle.std.proofs.lemmas.List.Elements.{All-drop, All-take}
-use Rattle.loads.specs.declared.faults.Fault.{Fault}
 use Rattle.loads.specs.declared.kinds.Load.{Ghosts}
 use Rattle.loads.specs.Octets.{field}
 use Rattle.channels.specs.declared.marks.Mark.{Mark}
@@ -12,7 +11,6 @@ use Rattle.channels.specs.Marks.{mark_of}
 use Rattle.link.specs.declared.calls.Call.{Call}
 use Rattle.link.specs.declared.calls.Call.TheVariants.{Request}
 use Rattle.link.specs.Words.{letter}
-use Rattle.sheet.specs.declared.parts.Way.{Way}
 use Rattle.sheet.specs.declared.parts.Way.TheVariants.{ToHut, Back}
 use Rattle.sheet.specs.declared.sections.SectionKind.{SectionKind}
 use Rattle.sheet.specs.declared.sections.SectionKind.TheVariants as section
@@ -43,10 +41,13 @@ plain_found octet call is =
     let (same, plain) = found (λ call. letter call == octet) IsPlain plain_calls call is (refl, (refl, (refl, (refl, (refl, (refl, (refl, (refl, (refl, (refl, (refl, tt))))))))))) in
     (search (rules, tests, same), plain)
 
--- a request has five octets
-letter_size : (call : Call) → letter call ≡ request_letter → length (call_spelled call) ≡ 5
-letter_size (Request start count) is = refl
-letter_size call is = search rules
+-- how many octets a call has, by its letter
+size_by_letter : (call : Call) → length (call_spelled call) ≡ (if letter call == request_letter then 5 else 1)
+size_by_letter (Request start count) = refl
+size_by_letter call = refl
+
+pub same_size : (one other : Call) → letter one ≡ letter other → length (call_spelled one) ≡ length (call_spelled other)
+same_size one other same = size_by_letter one ∙ ap (λ letter. if letter == request_letter then 5 else 1) same ∙ sym (size_by_letter other)
 
 -- the request at the front is spelled there
 request_spelled : (octets : List ℕ) (call : Call) → AreOctets octets → take 1 octets ≡ request_letter ∷ [] → first_request octets ≡ Some call → take 5 octets ≡ call_spelled call
@@ -81,7 +82,7 @@ call_first octet octets call below is =
     (λ passes read.
     let same : octet ≡ request_letter = search (rules, tests, passes) in
     let letters = request_letters (octet ∷ octets) call read in
-    let five : length (call_spelled call) ≡ 5 = letter_size call letters in
+    let five : length (call_spelled call) ≡ 5 = same_size call (Request 0 0) letters in
     (letters ∙ sym same, rw five (request_spelled (octet ∷ octets) call below (ap (λ octet. octet ∷ []) same) read)))
     (λ fails read.
     let (same, plain) = plain_found octet call read in

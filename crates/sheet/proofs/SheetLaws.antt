@@ -1,7 +1,6 @@
 -- What the sheets of each kind of load have.
-use Rattle.std.proofs.Common.{◌≡◌, inl, inr, ℕ, ◌<◌, List, Ok, Some, get_or, slice_index, subst, ap, sym, ◌∙◌, rules, tests, arith}
+use Rattle.std.proofs.Common.{◌≡◌, inl, inr, ℕ, ◌<◌, List, Ok, Some, get_or, slice_index, ap, ◌∙◌, rules, tests, arith}
 use Rattle.std.proofs.lemmas.List.Elements.{All-from_get_or}
-use Rattle.loads.specs.declared.kinds.Load.{Ghosts}
 use Rattle.loads.specs.declared.pieces.Piece.{Piece as APiece}
 use Rattle.loads.specs.declared.readings.Reading.{Reading as AReading}
 use Rattle.loads.specs.Pieces.{piece_kind, pieces}

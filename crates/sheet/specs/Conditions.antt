@@ -15,12 +15,12 @@ use Rattle.sheet.specs.declared.faults.SheetFault.{SheetFault}
 use Rattle.sheet.specs.declared.faults.SheetRefusal.{SheetRefusal}
 use Rattle.sheet.specs.declared.faults.SheetRefusal.TheVariants.{WrongSize, BadSetting, BadDistances, NoLoad, BadMark, BadCall}
 use Rattle.sheet.specs.Faults.{number_of}
-use Rattle.sheet.specs.Layouts.{trailer_size, most_octets, trailer_place, lists_of, trailer_of, distance, start_of, kind_at, repeats_at, book_octets, to_hut_octets, back_octets, calls_octets}
+use Rattle.sheet.specs.Layouts.{trailer_size, most_octets, lists_of, trailer_of, distance, start_of, kind_at, repeats_at, book_octets, to_hut_octets, back_octets, calls_octets}
 use Rattle.sheet.specs.Sections.{most_calls}
 use Rattle.sheet.specs.Spellings.{call_spelled}
 
--- a book that starts at a place has at another, behind others, a record that spells no load: the end of the book cuts it
--- short, or the kind refuses it
+-- a book that starts at a place has at another, behind others, a record that spells no load: the end of the book cuts
+-- it short, or the kind refuses it
 abbrev pub HasNoLoad : {T : Type 0} → Ghosts T → ℕ → List ℕ → ℕ → Type 0
 HasNoLoad kind start book place =
     (others : ℕ) × (place ≡ start + kind.SIZE * others) × (kind.SIZE * others < length book)
@@ -58,8 +58,10 @@ Applies BadDistances place octets lists trailer =
     × ((distance 0 trailer ≢ length lists)
     ⊎ ((list : ℕ) × (list < 3) × (distance list trailer < distance (list + 1) trailer)))
 Applies NoLoad place octets lists trailer =
-    ((slice_index trailer kind_at ≡ reading_kind) × HasNoLoad readings 0 (book_octets lists trailer) place)
-    ⊎ ((slice_index trailer kind_at ≡ piece_kind) × HasNoLoad pieces 0 (book_octets lists trailer) place)
+    ((slice_index trailer kind_at ≡ reading_kind)
+    × HasNoLoad readings 0 (book_octets lists trailer) place)
+    ⊎ ((slice_index trailer kind_at ≡ piece_kind)
+    × HasNoLoad pieces 0 (book_octets lists trailer) place)
 Applies BadMark place octets lists trailer =
     HasBadMark most_marks (start_of 1 lists trailer) (to_hut_octets lists trailer) place
     ⊎ HasBadMark most_marks (start_of 2 lists trailer) (back_octets lists trailer) place
@@ -84,7 +86,8 @@ HasNoFault octets = (fault : SheetFault) → IsFaultOf octets fault → ⊥
 -- the first fault of octets: theirs, and no other is before it
 abbrev pub IsFirstFault : List ℕ → SheetFault → Type 0
 IsFirstFault octets fault =
-    IsFaultOf octets fault × ((other : SheetFault) → IsFaultOf octets other → IsNotAfter fault other)
+    IsFaultOf octets fault
+    × ((other : SheetFault) → IsFaultOf octets other → IsNotAfter fault other)
 
 -- why there is no sheet of octets: their first fault; or they have none, and memory is wanting
 abbrev pub IsReason : List ℕ → ReadError → Type 0

@@ -1,13 +1,12 @@
 -- A whole sheet: its parts, what they give a run, and why it is turned down.
-use Rattle.std.specs.Prelude.{◌≡◌, ℕ, ◌+◌, List, [], ◌∷◌, ◌++◌, length, Ok, Result}
-use Rattle.std.specs.List.{flat_map}
+use Rattle.std.specs.Prelude.{ℕ, List, Ok, Result}
 use Rattle.loads.specs.declared.kinds.Load.{Ghosts}
 use Rattle.channels.specs.declared.marks.Mark.{Mark}
 use Rattle.link.specs.declared.calls.Call.{Call}
 use Rattle.sheet.specs.declared.faults.SheetFault.{SheetFault}
 use Rattle.sheet.specs.declared.parts.Way.TheVariants.{ToHut, Back}
 use Rattle.sheet.specs.Faults.{and_then}
-use Rattle.sheet.specs.Layouts.{LayoutState, trailer_of}
+use Rattle.sheet.specs.Layouts.{LayoutState}
 use Rattle.sheet.specs.Parts.{PartState, loads_in, marks_in, calls_in}
 use Rattle.sheet.specs.Sections.{sections_read}
 

@@ -71,7 +71,8 @@ module _ {T : Type 0} where
     pub whole : octets_in sheet.parts ++ trailer_spelled kind sheet.repeats sheet.parts ≡ octets
     pub in_places : AreInPlaces 0 sheet.parts
     pub in_order :
-        in_list 0 sheet.parts ++ in_list 1 sheet.parts ++ in_list 2 sheet.parts ++ in_list 3 sheet.parts
+        in_list 0 sheet.parts ++ in_list 1 sheet.parts
+        ++ in_list 2 sheet.parts ++ in_list 3 sheet.parts
         ≡ sheet.parts
     pub spelled : All (λ part. Spells kind part.octets part.meaning) sheet.parts
     pub gives : sheet ≡ sheet_of sheet.repeats sheet.parts
