@@ -5,8 +5,6 @@ use Rattle.std.proofs.Math.Nat.{eq-or-lt_of_le}
 use Rattle.std.proofs.lemmas.Bool.Decides.{leb_tells, eqb_tells}
 use Rattle.std.proofs.lemmas.List.Elements.{All-drop, All-take}
 use Rattle.loads.specs.declared.kinds.Load.{Ghosts}
-use Rattle.loads.specs.Pieces.{piece_kind}
-use Rattle.loads.specs.Readings.{reading_kind}
 use Rattle.channels.specs.Marks.{most_marks}
 use Rattle.link.specs.Timers.{most_repeats}
 use Rattle.sheet.specs.declared.faults.ReadError.{ReadError}
@@ -16,7 +14,8 @@ use Rattle.sheet.specs.declared.faults.SheetRefusal.{SheetRefusal}
 use Rattle.sheet.specs.declared.faults.SheetRefusal.TheVariants.{WrongSize, BadSetting, BadDistances, NoLoad, BadMark, BadCall}
 use Rattle.sheet.specs.declared.layouts.LoadKind.{LoadKind}
 use Rattle.sheet.specs.declared.parts.Way.TheVariants.{ToHut, Back}
-use Rattle.sheet.specs.Conditions.{HasNoLoad, HasBadMark, HasBadCall, IsFaultOf, IsNotAfter, HasNoFault, IsFirstFault, IsReason}
+use Rattle.sheet.specs.declared.layouts.LoadKind.TheVariants.{Reading, Piece}
+use Rattle.sheet.specs.Conditions.{octet_of, HasNoLoad, HasBadMark, HasBadCall, IsFaultOf, IsNotAfter, HasNoFault, IsFirstFault, IsReason}
 use Rattle.sheet.specs.Faults.{number_of, fault_at, and_then, Fails}
 use Rattle.sheet.specs.Layouts.{LayoutState, trailer_size, most_octets, trailer_place, lists_of, trailer_of, distance, start_of, kind_at, repeats_at, load_kind, distances_fit, book_octets, sections_of, settings_read, layout_reads, layout_of}
 use Rattle.sheet.specs.Parts.{PartState}
@@ -46,14 +45,18 @@ same_number BadCall BadCall is = refl
 same_number one other is = absurd (omega arith)
 
 -- the octet kind
-kind_known : (octet : ℕ) (kind : LoadKind) → load_kind octet ≡ Some kind → octet ≢ reading_kind → octet ≢ piece_kind → ⊥
-kind_known octet kind is other another = by_test (octet == reading_kind) _ _ (Some kind) is
-    (λ passes some. other (search (rules, tests, passes)))
-    (λ fails others. by_test (octet == piece_kind) _ None (Some kind) others (λ passes some. another (search (rules, tests, passes))) (λ fails none. search (rules, none)))
+pub kind_octet : (octet : ℕ) (kind : LoadKind) → load_kind octet ≡ Some kind → octet ≡ octet_of kind
+kind_octet octet Reading is = search (rules, tests)
+kind_octet octet kind is = search (rules, tests)
 
-kind_unknown : (octet : ℕ) → load_kind octet ≡ None → (octet ≢ reading_kind) × (octet ≢ piece_kind)
-kind_unknown octet none =
-    (λ same. search (rules, subst (λ octet. load_kind octet ≡ None) same none), λ same. search (rules, subst (λ octet. load_kind octet ≡ None) same none))
+kind_unknown : (octet : ℕ) → load_kind octet ≡ None → (kind : LoadKind) → octet ≢ octet_of kind
+kind_unknown octet none Reading same = search (rules, subst (λ octet. load_kind octet ≡ None) same none)
+kind_unknown octet none kind same = search (rules, subst (λ octet. load_kind octet ≡ None) same none)
+
+pub same_kind : (one other : LoadKind) → octet_of one ≡ octet_of other → one ≡ other
+same_kind Reading Reading is = refl
+same_kind Piece Piece is = refl
+same_kind one other is = absurd (omega arith)
 
 either : (one other : Bool) → (one || other) ≡ true → (one ≡ true) ⊎ (other ≡ true)
 either true other is = inl refl
@@ -142,12 +145,12 @@ module _ (octets : List ℕ) where
         let same : fault_at BadSetting (length lists + repeats_at) ≡ fault = search (rules, said) in
         let above : most_repeats < slice_index trailer repeats_at = search (rules, tests, many) in
         subst (IsFirstFault octets) same (first_by (fault_at BadSetting (length lists + repeats_at)) BadSetting refl (λ place applies. elim applies [
-          | inl (at, other, another) ↦ absurd (kind_known octet kind named other another)
+          | inl (at, unknown) ↦ absurd (unknown kind (kind_octet octet kind named))
           | inr (at, more) ↦ omega arith
         ]) none (inr (refl, above))))
         (λ few others.
         let no_setting : NoneOf BadSetting = λ place applies. elim applies [
-          | inl (at, other, another) ↦ kind_known octet kind named other another
+          | inl (at, unknown) ↦ unknown kind (kind_octet octet kind named)
           | inr (at, more) ↦ search (rules, tests, few, more)
         ] in
         by_test (distances_fit (length lists) trailer) (Ok (layout_of kind lists trailer)) (Err (fault_at BadDistances (length lists))) (Err fault) others
@@ -160,9 +163,9 @@ module _ (octets : List ℕ) where
         let said = subst (λ kind. settings_read kind lists trailer ≡ Err fault) named is in
         let same : fault_at BadSetting (length lists + kind_at) ≡ fault = search (rules, said) in
         subst (IsFirstFault octets) same (first_by (fault_at BadSetting (length lists + kind_at)) BadSetting refl (λ place applies. elim applies [
-          | inl (at, other, another) ↦ omega arith
+          | inl (at, unknown) ↦ omega arith
           | inr (at, more) ↦ omega arith
-        ]) none (inl (refl, unknown.0, unknown.1))))
+        ]) none (inl (refl, unknown))))
 
     -- by its size and its trailer
     pub layout_first : layout_reads octets ≡ Err fault → IsFirstFault octets fault
@@ -184,7 +187,7 @@ module _ (octets : List ℕ) where
         | inl few ↦ omega (arith, out.enough, few)
         | inr many ↦ omega (arith, out.few, many)
       ])) (λ place applies. elim applies [
-        | inl (at, other, another) ↦ kind_known (slice_index (trailer_of octets) kind_at) layout.kind out.kind other another
+        | inl (at, unknown) ↦ unknown layout.kind (kind_octet (slice_index (trailer_of octets) kind_at) layout.kind out.kind)
         | inr (at, more) ↦ omega (arith, out.repeats_few, more)
       ])) (λ place applies. fit (length (lists_of octets)) (trailer_of octets) out.ordered applies.1)
 

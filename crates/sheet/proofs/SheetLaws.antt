@@ -1,16 +1,18 @@
 -- What the sheets of each kind of load have.
-use Rattle.std.proofs.Common.{◌≡◌, inl, inr, ℕ, ◌<◌, List, Ok, Some, get_or, slice_index, ap, ◌∙◌, rules, tests, arith}
+use Rattle.std.proofs.Common.{◌≡◌, ℕ, ◌<◌, List, Ok, Some, get_or, slice_index, subst, refl, ap, sym, ◌∙◌, rules, tests, arith}
 use Rattle.std.proofs.lemmas.List.Elements.{All-from_get_or}
-use Rattle.loads.specs.declared.pieces.Piece.{Piece as APiece}
-use Rattle.loads.specs.declared.readings.Reading.{Reading as AReading}
-use Rattle.loads.specs.Pieces.{piece_kind, pieces}
-use Rattle.loads.specs.Readings.{reading_kind, readings}
+use Rattle.loads.specs.declared.kinds.Load.{Ghosts}
+use Rattle.loads.specs.Pieces.{pieces}
+use Rattle.loads.specs.Readings.{readings}
+use Rattle.sheet.specs.declared.faults.SheetRefusal.TheVariants.{NoLoad}
 use Rattle.sheet.specs.declared.layouts.LoadKind.{LoadKind}
 use Rattle.sheet.specs.declared.layouts.LoadKind.TheVariants.{Reading, Piece}
-use Rattle.sheet.specs.Layouts.{LayoutState, kind_at, load_kind, trailer_of, layout_reads}
+use Rattle.sheet.specs.Conditions.{HasNoLoad, octet_of, HasNoLoadOf, IsFaultOf}
+use Rattle.sheet.specs.Faults.{fault_at}
+use Rattle.sheet.specs.Layouts.{LayoutState, kind_at, lists_of, trailer_of, book_octets, layout_reads}
 use Rattle.sheet.specs.Sheets.{SheetParts, sheet_read}
 use Rattle.sheet.specs.Spellings.{IsSpelled}
-use Rattle.sheet.proofs.FirstFaults.{Verdict, sheet_verdict}
+use Rattle.sheet.proofs.FirstFaults.{kind_octet, same_kind, Verdict, sheet_verdict}
 use Rattle.sheet.proofs.LayoutLaws.{layout_read, sheet_spelled}
 use Rattle.sheet.proofs.OctetLaws.{AreOctets}
 use Rattle.sheet.proofs.RecordLaws.{IsSized}
@@ -19,43 +21,44 @@ use Rattle.sheet.proofs.RecordLaws.{IsSized}
 pub octets_below : (octets : List ℕ) → ((i : ℕ) → get_or octets i 0 < 256) → AreOctets octets
 octets_below octets below = All-from_get_or (λ octet. octet < 256) octets 0 (λ i less. below i)
 
-readings_sized : IsSized readings
-readings_sized octets load is = search (rules, tests)
+-- the loads that a kind names
+pub record IsKindOf {T : Type 0} (loads : LoadKind) (kind : Ghosts T) : Type 0 where
+  pub octet : octet_of loads ≡ kind.KIND
+  pub sized : IsSized kind
+  pub some : 0 < kind.SIZE
+  pub there : (book : List ℕ) (place : ℕ) → HasNoLoadOf loads book place → HasNoLoad kind 0 book place
+  pub back : (book : List ℕ) (place : ℕ) → HasNoLoad kind 0 book place → HasNoLoadOf loads book place
 
-pieces_sized : IsSized pieces
-pieces_sized octets load is = search (rules, tests)
+pub of_readings : IsKindOf Reading readings
+of_readings = record {
+  octet = refl;
+  sized = λ octets load is. search (rules, tests);
+  some = omega arith;
+  there = λ book place here. here;
+  back = λ book place here. here;
+}
 
--- the octet kind of each
-reading_named : (octet : ℕ) → load_kind octet ≡ Some Reading → octet ≡ reading_kind
-reading_named octet is = search (rules, tests)
+pub of_pieces : IsKindOf Piece pieces
+of_pieces = record {
+  octet = refl;
+  sized = λ octets load is. search (rules, tests);
+  some = omega arith;
+  there = λ book place here. here;
+  back = λ book place here. here;
+}
 
-piece_named : (octet : ℕ) → load_kind octet ≡ Some Piece → octet ≡ piece_kind
-piece_named octet is = search (rules, tests)
+module _ {T : Type 0} (loads : LoadKind) (kind : Ghosts T) (of : IsKindOf loads kind) (octets : List ℕ) (below : AreOctets octets) (layout : LayoutState) (laid : layout_reads octets ≡ Ok layout) (is : layout.kind ≡ loads) where
+  octet_is : slice_index (trailer_of octets) kind_at ≡ octet_of loads
+  octet_is = kind_octet (slice_index (trailer_of octets) kind_at) loads ((layout_read octets layout laid).kind ∙ ap Some is)
 
-module _ (octets : List ℕ) (below : AreOctets octets) (layout : LayoutState) (laid : layout_reads octets ≡ Ok layout) where
-  kind_is : (kind : LoadKind) → layout.kind ≡ kind → load_kind (slice_index (trailer_of octets) kind_at) ≡ Some kind
-  kind_is kind is = (layout_read octets layout laid).kind ∙ ap Some is
+  -- a sheet of them that is read is spelled so
+  pub kind_spelled : (sheet : SheetParts T) → sheet_read kind layout ≡ Ok sheet → IsSpelled kind sheet octets
+  kind_spelled sheet read = sheet_spelled kind of.sized octets below layout sheet laid (octet_is ∙ of.octet) read
 
-  is_reading : layout.kind ≡ Reading → slice_index (trailer_of octets) kind_at ≡ reading_kind
-  is_reading is = reading_named _ (kind_is Reading is)
-
-  is_piece : layout.kind ≡ Piece → slice_index (trailer_of octets) kind_at ≡ piece_kind
-  is_piece is = piece_named _ (kind_is Piece is)
-
-  pub readings_spelled : layout.kind ≡ Reading → (sheet : SheetParts AReading) → sheet_read readings layout ≡ Ok sheet → IsSpelled readings sheet octets
-  readings_spelled is sheet read = sheet_spelled readings readings_sized octets below layout sheet laid (is_reading is) read
-
-  pub pieces_spelled : layout.kind ≡ Piece → (sheet : SheetParts APiece) → sheet_read pieces layout ≡ Ok sheet → IsSpelled pieces sheet octets
-  pieces_spelled is sheet read = sheet_spelled pieces pieces_sized octets below layout sheet laid (is_piece is) read
-
-  pub readings_verdict : layout.kind ≡ Reading → Verdict octets (sheet_read readings layout)
-  readings_verdict is = sheet_verdict octets layout laid below readings readings_sized (omega arith) (λ place applies. elim applies [
-    | inl (reading, here) ↦ here
-    | inr (piece, here) ↦ absurd (omega (arith, is_reading is, piece))
-  ]) (λ place here. inl (is_reading is, here))
-
-  pub pieces_verdict : layout.kind ≡ Piece → Verdict octets (sheet_read pieces layout)
-  pieces_verdict is = sheet_verdict octets layout laid below pieces pieces_sized (omega arith) (λ place applies. elim applies [
-    | inl (reading, here) ↦ absurd (omega (arith, is_piece is, reading))
-    | inr (piece, here) ↦ here
-  ]) (λ place here. inr (is_piece is, here))
+  -- and one that is turned down is so for its first fault
+  pub kind_verdict : Verdict octets (sheet_read kind layout)
+  kind_verdict =
+      let book = book_octets (lists_of octets) (trailer_of octets) in
+      sheet_verdict octets layout laid below kind of.sized of.some
+      (λ place (other, named, here). of.there book place (subst (λ kind. HasNoLoadOf kind book place) (same_kind other loads (sym named ∙ octet_is)) here))
+      (λ place here. (loads, octet_is, of.back book place here))

@@ -14,6 +14,8 @@ use Rattle.sheet.specs.declared.faults.ReadError.TheVariants.{Refused, NoMemory}
 use Rattle.sheet.specs.declared.faults.SheetFault.{SheetFault}
 use Rattle.sheet.specs.declared.faults.SheetRefusal.{SheetRefusal}
 use Rattle.sheet.specs.declared.faults.SheetRefusal.TheVariants.{WrongSize, BadSetting, BadDistances, NoLoad, BadMark, BadCall}
+use Rattle.sheet.specs.declared.layouts.LoadKind.{LoadKind}
+use Rattle.sheet.specs.declared.layouts.LoadKind.TheVariants.{Reading, Piece}
 use Rattle.sheet.specs.Faults.{number_of}
 use Rattle.sheet.specs.Layouts.{trailer_size, most_octets, lists_of, trailer_of, distance, start_of, kind_at, repeats_at, book_octets, to_hut_octets, back_octets, calls_octets}
 use Rattle.sheet.specs.Sections.{most_calls}
@@ -25,6 +27,16 @@ abbrev pub HasNoLoad : {T : Type 0} → Ghosts T → ℕ → List ℕ → ℕ �
 HasNoLoad kind start book place =
     (others : ℕ) × (place ≡ start + kind.SIZE * others) × (kind.SIZE * others < length book)
     × IsErr (kind.reads (take kind.SIZE (drop (kind.SIZE * others) book)))
+
+-- the octet of a kind of load
+abbrev pub octet_of : LoadKind → ℕ
+octet_of Reading = reading_kind
+octet_of Piece = piece_kind
+
+-- a sheet's book of a kind has a record that spells no load
+abbrev pub HasNoLoadOf : LoadKind → List ℕ → ℕ → Type 0
+HasNoLoadOf Reading book place = HasNoLoad readings 0 book place
+HasNoLoadOf Piece book place = HasNoLoad pieces 0 book place
 
 -- marks that start at a place have at another, behind others, one that is above 2, or one too many
 abbrev pub HasBadMark : ℕ → ℕ → List ℕ → ℕ → Type 0
@@ -51,17 +63,15 @@ Applies WrongSize place octets lists trailer =
     (place ≡ length octets) × ((length octets < trailer_size) ⊎ (most_octets < length octets))
 Applies BadSetting place octets lists trailer =
     ((place ≡ length lists + kind_at)
-    × (slice_index trailer kind_at ≢ reading_kind) × (slice_index trailer kind_at ≢ piece_kind))
+    × ((kind : LoadKind) → slice_index trailer kind_at ≢ octet_of kind))
     ⊎ ((place ≡ length lists + repeats_at) × (most_repeats < slice_index trailer repeats_at))
 Applies BadDistances place octets lists trailer =
     (place ≡ length lists)
     × ((distance 0 trailer ≢ length lists)
     ⊎ ((list : ℕ) × (list < 3) × (distance list trailer < distance (list + 1) trailer)))
 Applies NoLoad place octets lists trailer =
-    ((slice_index trailer kind_at ≡ reading_kind)
-    × HasNoLoad readings 0 (book_octets lists trailer) place)
-    ⊎ ((slice_index trailer kind_at ≡ piece_kind)
-    × HasNoLoad pieces 0 (book_octets lists trailer) place)
+    (kind : LoadKind) × (slice_index trailer kind_at ≡ octet_of kind)
+    × HasNoLoadOf kind (book_octets lists trailer) place
 Applies BadMark place octets lists trailer =
     HasBadMark most_marks (start_of 1 lists trailer) (to_hut_octets lists trailer) place
     ⊎ HasBadMark most_marks (start_of 2 lists trailer) (back_octets lists trailer) place
