@@ -44,7 +44,7 @@ HasBadMark most start marks place =
     (others : ℕ) × (place ≡ start + others) × (others < length marks)
     × ((2 < slice_index marks others) ⊎ (others ≡ most))
 
--- octets begin with no call: with the letter of none, or with Q and fewer than four octets behind it
+-- octets begin with no call: with the letter of none, or with Q and fewer than four octets behind
 abbrev pub BeginWithNoCall : List ℕ → Type 0
 BeginWithNoCall [] = ⊥
 BeginWithNoCall (octet ∷ octets) =
@@ -57,7 +57,7 @@ HasBadCall most start calls place =
     × (place ≡ start + length (flat_map call_spelled others)) × (0 < length rest)
     × (BeginWithNoCall rest ⊎ (length others ≡ most))
 
--- what turns a sheet down applies at a place of its octets, which are its lists and its trailer
+-- the condition of a refusal holds at a place of octets, which are lists and a trailer behind them
 abbrev pub Applies : SheetRefusal → ℕ → List ℕ → List ℕ → List ℕ → Type 0
 Applies WrongSize place octets lists trailer =
     (place ≡ length octets) × ((length octets < trailer_size) ⊎ (most_octets < length octets))
@@ -78,7 +78,7 @@ Applies BadMark place octets lists trailer =
 Applies BadCall place octets lists trailer =
     HasBadCall most_calls (start_of 3 lists trailer) (calls_octets lists trailer) place
 
--- a fault of octets: what it says applies where it says
+-- a fault of octets: the condition of its refusal holds at its place
 abbrev pub IsFaultOf : List ℕ → SheetFault → Type 0
 IsFaultOf octets fault =
     Applies fault.refusal fault.place octets (lists_of octets) (trailer_of octets)
