@@ -2,15 +2,8 @@
 
 #![tactic(auto)]
 
-use sheetrun::{input_limit, sheet_lines};
-use std::io::Read;
+use sheetrun::run_sheet;
 
 fn main(rt: HostRuntime) -> anyhow::Result<()> {
-    let mut octets = Vec::new(rt.alloc());
-    rt.stdin()
-        .take(input_limit() as u64)
-        .read_to_end(&mut octets)?;
-    let lines = sheet_lines(rt.alloc(), &octets)?;
-    print!(rt; "{lines}")?;
-    Ok(())
+    Ok(run_sheet(rt.alloc(), rt.stdin(), &mut rt.stdout())?)
 }

@@ -1,3 +1,4 @@
+pub mod Inputs
 pub mod Lines
 pub mod Logs
 pub mod RainsByMarks

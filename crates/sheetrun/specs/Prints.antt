@@ -1,5 +1,5 @@
 -- What a sheet prints: a line for each call, or one that says why it is turned down.
-use Rattle.std.specs.Prelude.{ℕ, ◌<◌, ◌⊎◌, List, ◌++◌, length, Ok, Err, Result, codes}
+use Rattle.std.specs.Prelude.{ℕ, ◌+◌, ◌<◌, ◌⊎◌, List, ◌++◌, length, take, Ok, Err, Result, codes}
 use Rattle.std.specs.List.{flat_map}
 use Rattle.loads.specs.declared.kinds.Load.{Ghosts}
 use Rattle.loads.specs.Pieces.{pieces}
@@ -13,7 +13,7 @@ use Rattle.sheet.specs.declared.anysheets.AnySheet.{AnySheet}
 use Rattle.sheet.specs.declared.anysheets.AnySheet.TheVariants.{Readings, Pieces}
 use Rattle.sheet.specs.declared.faults.SheetFault.{SheetFault}
 use Rattle.sheet.specs.AnySheets.{sheet_reads, HasOctetsBefore}
-use Rattle.sheet.specs.Layouts.{layout_reads}
+use Rattle.sheet.specs.Layouts.{most_octets, layout_reads}
 use Rattle.sheet.specs.Faults.{fault_text}
 use Rattle.sheet.specs.Sheets.{SheetParts}
 use Rattle.sheetrun.specs.CallsByMarks.{MarkedLink, calls_by_marks}
@@ -56,6 +56,10 @@ prints (Err fault) = line (fault_text fault)
 -- all that a sheet prints
 abbrev pub sheet_prints : List ℕ → List ℕ
 sheet_prints octets = prints (sheet_reads octets)
+
+-- the octets of an input that are run as a sheet: one more than it may have, so that a longer input is seen to be too long
+abbrev pub sheet_octets : List ℕ → List ℕ
+sheet_octets input = take (most_octets + 1) input
 
 -- memory may be wanting only where anything is printed, or a good trailer has octets before it
 abbrev pub NeedsMemory : List ℕ → Type 0

@@ -4,6 +4,8 @@
 
 mod prints;
 mod runs;
+mod streams;
 
-pub use prints::{input_limit, sheet_lines};
+pub use prints::sheet_lines;
 pub use runs::{RainedLink, run_by_marks, sheet_events};
+pub use streams::run_sheet;

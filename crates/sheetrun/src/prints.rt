@@ -1,23 +1,15 @@
 //! All that a sheet prints: a line for each call, or one that says why it is turned down.
-ghost use Rattle.std.specs.Prelude.{◌≡◌, ◌+◌, ◌<◌, length, IfOk, IfErr, string_bytes};
+ghost use Rattle.std.specs.Prelude.{◌≡◌, ◌<◌, length, IfOk, IfErr, string_bytes};
 ghost use Rattle.sheet.specs.AnySheets.{sheet_reads};
 ghost use Rattle.sheet.specs.Faults.{fault_text};
-ghost use Rattle.sheet.specs.Layouts.{most_octets};
 ghost use Rattle.sheetrun.specs.Prints.{line, event_lines as lines_of, events_of, sheet_prints, NeedsMemory, IsLawfulRun, RunsLawfully};
 
 use crate::runs::sheet_events;
 use link::Event;
 use linktext::push_call;
 use loads::Load;
-use sheet::{AnySheet, MOST_OCTETS, ReadError, Sheet, SheetFault, fault_line};
+use sheet::{AnySheet, ReadError, Sheet, SheetFault, fault_line};
 use std::alloc::{AllocError, Global};
-
-/// The most octets to read as a sheet: one more than it may have, so that a longer input is seen to be too long.
-pub fn input_limit() -> usize
-    ensures answer { result ≡ most_octets + 1 }
-{
-    MOST_OCTETS + 1
-}
 
 // A line for each call with its answer. Open: whether there is memory for them, where there are any.
 fn event_lines<T: Load>(heap: Global, events: &[Event<T>]) -> Result<String, AllocError>
