@@ -1,17 +1,19 @@
 //! Writes frames and shows what their octets read back as and how a damaged copy is turned down,
 //! and then does the same with the octets of standard input. Each worked frame has a function,
-//! since its contract has the octets written out.
+//! since its lines stand written out in specs/.
 
 #![tactic(auto)]
 
-ghost use Rattle.std.specs.Prelude.{◌≡◌, [], ◌∷◌, string_bytes, MatchResult};
+ghost use Rattle.std.specs.Prelude.{◌≡◌, ◌++◌, OnOk, IfOk, IfSome, string_bytes, vec_items, MatchResult};
+ghost use Rattle.std.specs.Io.KnownBytes.{Appends};
 ghost use Rattle.loads.specs.declared.faults.Fault.TheVariants.{NoMemory};
-ghost use Rattle.frametext.specs.Lines.{changed_lines};
+ghost use Rattle.showframe.specs.Prints.{piece_lines, reading_lines, reply_lines, worked_lines, shown_octets, input_line};
 
 use frametext::{frame_line, frame_lines};
 use loads::{EmptyLoad, Fault, Frame, LONGEST_FRAME, Piece, Reading};
 use std::alloc::Global;
-use std::io::Read;
+use std::io;
+use std::io::{Read, Write};
 
 // One octet more than the longest frame, so that a longer input is seen to be too long.
 const INPUT_LIMIT: u64 = LONGEST_FRAME as u64 + 1;
@@ -19,9 +21,7 @@ const INPUT_LIMIT: u64 = LONGEST_FRAME as u64 + 1;
 // The first piece of a message, and a copy with a zoom that no map has.
 fn piece_lines(heap: Global) -> Result<String, Fault>
     ensures cases { MatchResult result
-        (λ text. string_bytes text ≡ changed_lines
-        (0x82 ∷ 0x14 ∷ 0x00 ∷ 0x0F ∷ 0xFF ∷ 0xFF ∷ 0x00 ∷ 0x05 ∷ 0x55 ∷ 0x55 ∷ 0x00 ∷ 0x03
-        ∷ 0x01 ∷ 0x23 ∷ 0x45 ∷ 0x67 ∷ 0x89 ∷ 0xAB ∷ 0xCD ∷ 0xEF ∷ []) 1 21)
+        (λ text. string_bytes text ≡ piece_lines)
         (λ fault. fault ≡ NoMemory) }
 {
     let load = Piece::new(20, 1_048_575, 349_525, 3, 0x0123_4567_89AB_CDEF).unwrap();
@@ -37,7 +37,7 @@ fn piece_lines(heap: Global) -> Result<String, Fault>
 // The first reading of a message, and a copy of a kind that no load has.
 fn reading_lines(heap: Global) -> Result<String, Fault>
     ensures cases { MatchResult result
-        (λ text. string_bytes text ≡ changed_lines (0x81 ∷ 0 ∷ 0 ∷ 0 ∷ 7 ∷ []) 0 0x9F)
+        (λ text. string_bytes text ≡ reading_lines)
         (λ fault. fault ≡ NoMemory) }
 {
     let load = Reading { value: 7 };
@@ -53,7 +53,7 @@ fn reading_lines(heap: Global) -> Result<String, Fault>
 // The reply to the last load of a message, and a copy that has become a reading without its octets.
 fn reply_lines(heap: Global) -> Result<String, Fault>
     ensures cases { MatchResult result
-        (λ text. string_bytes text ≡ changed_lines (0x60 ∷ []) 0 0x61)
+        (λ text. string_bytes text ≡ reply_lines)
         (λ fault. fault ≡ NoMemory) }
 {
     let load = EmptyLoad;
@@ -66,12 +66,43 @@ fn reply_lines(heap: Global) -> Result<String, Fault>
     frame_lines(heap, &frame, 0, 0x61)
 }
 
-fn main(rt: HostRuntime) -> anyhow::Result<()> {
-    rt.println(piece_lines(rt.alloc())?)?;
-    rt.println(reading_lines(rt.alloc())?)?;
-    rt.println(reply_lines(rt.alloc())?)?;
-    let mut octets = Vec::new(rt.alloc());
-    rt.stdin().take(INPUT_LIMIT).read_to_end(&mut octets)?;
-    rt.println(frame_line(rt.alloc(), "input", octets.as_slice())?)?;
+// Writes the lines of the worked frames. Open: what the output holds after an error.
+fn write_worked<W: Write>(heap: Global, output: &mut W) -> anyhow::Result<()>
+    ensures printed { OnOk result
+        (Appends (W.contents output.old) (W.contents output.new) worked_lines) }
+{
+    output.writeln(piece_lines(heap)?)?;
+    output.writeln(reading_lines(heap)?)?;
+    output.writeln(reply_lines(heap)?)?;
     Ok(())
+}
+
+// The octets of an input that are shown.
+fn read_octets<R: Read + Drop>(heap: Global, input: R) -> io::Result<Vec<u8>>
+    ensures read { IfOk result (λ octets.
+        IfSome (R.remaining input) (λ all. vec_items octets ≡ shown_octets all)) }
+{
+    let mut octets = Vec::new(heap);
+    input.take(INPUT_LIMIT).read_to_end(&mut octets)?;
+    Ok(octets)
+}
+
+// Writes the lines of the worked frames, and then the line of what it reads. Open: whether there is
+// memory for them; and what the output holds after an error.
+fn show_frames<R: Read + Drop, W: Write>(
+    heap: Global,
+    input: R,
+    output: &mut W,
+) -> anyhow::Result<()>
+    ensures printed { OnOk result (IfSome (R.remaining input) (λ all.
+        Appends (W.contents output.old) (W.contents output.new) (worked_lines ++ input_line all))) }
+{
+    write_worked(heap, output)?;
+    let octets = read_octets(heap, input)?;
+    output.writeln(frame_line(heap, "input", &octets)?)?;
+    Ok(())
+}
+
+fn main(rt: HostRuntime) -> anyhow::Result<()> {
+    show_frames(rt.alloc(), rt.stdin(), &mut rt.stdout())
 }
