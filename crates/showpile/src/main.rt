@@ -2,7 +2,8 @@
 
 #![tactic(auto)]
 
-ghost use Rattle.std.specs.Prelude.{◌≡◌, [], ◌∷◌};
+ghost use Rattle.std.specs.Prelude.{◌≡◌, [], ◌∷◌, IfOk, OnOk, string_bytes};
+ghost use Rattle.std.specs.Io.KnownBytes.{Appends};
 ghost use Rattle.std.specs.Mem.{FitsInMemory};
 ghost use Rattle.channel.specs.Rows.{RowLeads};
 ghost use Rattle.channels.specs.declared.marks.Mark.TheVariants.{Lose};
@@ -11,11 +12,15 @@ ghost use Rattle.channels.specs.Rains.{rains};
 ghost use Rattle.channels.specs.Singles.{stores};
 ghost use Rattle.channels.specs.Wires.{wires};
 ghost use Rattle.showpile.specs.Crossings.{lost_once};
+ghost use Rattle.showpile.specs.Prints.{use_lines as lines_of, pile_lines};
 
 use channel::{Poll, Use, Used, make_uses};
 use channels::{Hop, Rain, Store, Wire};
 use frametext::use_line;
 use loads::{Frame, Load, Reading};
+use std::alloc::{AllocError, Global};
+use std::io;
+use std::io::Write;
 
 // Puts a frame into a rain over a hop from a wire to a store. The rain loses the first frame, so it
 // is put again.
@@ -42,7 +47,24 @@ fn lost_once<T: Load>(pile: &mut Rain<'_, Hop<Wire<T>, Store<T>>>, frame: &Frame
     log
 }
 
-fn main(rt: HostRuntime) -> anyhow::Result<()> {
+// A line for each use. Open: whether there is memory for them.
+fn use_lines<T: Load>(heap: Global, uses: &[Used<T>]) -> Result<String, AllocError>
+    ensures made { IfOk result (λ text. string_bytes text ≡ lines_of T.Load uses.now) }
+{
+    let mut text = String::new(heap);
+    for used in uses {
+        text.push_str(&use_line(heap, used)?)?;
+        text.push('\n')?;
+    }
+    Ok(text)
+}
+
+// Puts the first frame of a message into the pile, and writes a line for each use. Open: whether there
+// is memory for them; and what the output holds after an error.
+fn show_pile<W: Write>(heap: Global, output: &mut W) -> io::Result<()>
+    ensures printed { OnOk result
+        (Appends (W.contents output.old) (W.contents output.new) pile_lines) }
+{
     let frame = Frame {
         first: true,
         last: false,
@@ -51,8 +73,10 @@ fn main(rt: HostRuntime) -> anyhow::Result<()> {
     };
     let marks = [1];
     let mut pile = Rain::new(Hop::new(Wire::new(), Store::new()), &marks).unwrap();
-    for used in &lost_once(&mut pile, &frame) {
-        rt.println(use_line(rt.alloc(), used)?)?;
-    }
-    Ok(())
+    let lines = use_lines(heap, &lost_once(&mut pile, &frame))?;
+    output.write_all(lines.as_bytes())
+}
+
+fn main(rt: HostRuntime) -> anyhow::Result<()> {
+    Ok(show_pile(rt.alloc(), &mut rt.stdout())?)
 }
