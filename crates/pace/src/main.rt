@@ -6,6 +6,7 @@ mod calls;
 mod frames;
 mod links;
 mod requests;
+mod tallies;
 
 use std::alloc::Global;
 use std::io::Read;
@@ -14,10 +15,10 @@ use std::io::Read;
 fn line_of(heap: Global, task: &str) -> anyhow::Result<String> {
     let mut words = task.split_whitespace();
     match (words.next(), words.next(), words.next()) {
-        (Some("calls"), Some(rounds), None) => calls::repeat(heap, rounds.parse()?),
+        (Some("calls"), Some(rounds), None) => Ok(calls::repeat(heap, rounds.parse()?)?),
         (Some("frames"), Some(rounds), None) => frames::repeat(heap, rounds.parse()?),
         (Some("requests"), Some(loads), Some(rounds)) => {
-            requests::repeat(heap, loads.parse()?, rounds.parse()?)
+            Ok(requests::repeat(heap, loads.parse()?, rounds.parse()?)?)
         }
         _ => Err(anyhow::anyhow!("no task")),
     }

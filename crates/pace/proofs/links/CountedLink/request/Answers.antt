@@ -1,0 +1,11 @@
+use Rattle.std.proofs.Common.{◌∙◌}
+use Rattle.link.specs.declared.calls.Call.TheVariants as call
+use Rattle.link.specs.declared.events.Answer.TheVariants.{Done}
+use Rattle.link.specs.Calls.{shown}
+use Rattle.pace.proofs.Counts.{step_counts, done_taken}
+use Rattle.pace.proofs.links.CountedLink.request.Goals as goal
+
+pub returns : goal.returns
+returns c =
+    let tallied = c.take.ensures.after ∙ done_taken c.request.result _ in
+    record { after = step_counts (call.Request c.args.start c.args.count) (shown (λ _. Done) c.request.result) c.request.ensures.step tallied c.self.view_is }
