@@ -1,3 +1,4 @@
 pub mod Tallies
 pub mod Links
 pub mod Repeats
+pub mod Frames

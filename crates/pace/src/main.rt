@@ -16,7 +16,7 @@ fn line_of(heap: Global, task: &str) -> anyhow::Result<String> {
     let mut words = task.split_whitespace();
     match (words.next(), words.next(), words.next()) {
         (Some("calls"), Some(rounds), None) => Ok(calls::repeat(heap, rounds.parse()?)?),
-        (Some("frames"), Some(rounds), None) => frames::repeat(heap, rounds.parse()?),
+        (Some("frames"), Some(rounds), None) => Ok(frames::repeat(heap, rounds.parse()?)?),
         (Some("requests"), Some(loads), Some(rounds)) => {
             Ok(requests::repeat(heap, loads.parse()?, rounds.parse()?)?)
         }
