@@ -1,2 +1,3 @@
 pub mod Counts
 pub mod Rounds
+pub mod Prints

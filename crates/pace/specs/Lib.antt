@@ -2,3 +2,4 @@ pub mod Tallies
 pub mod Links
 pub mod Repeats
 pub mod Frames
+pub mod Tasks

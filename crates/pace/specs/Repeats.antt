@@ -33,7 +33,7 @@ outcome_text (Ok (word, told)) = codes "word " ++ (word_text word ++ (codes " to
 outcome_text (Err why) = codes "refused " ++ decimal (number_of why)
 
 -- all that is printed of the calls of so many rounds
-abbrev pub calls_text : ℕ → List ℕ
+unfoldable pub calls_text : ℕ → List ℕ
 calls_text rounds =
     let after = counts_all (calls_made rounds) (at_start (readings_of most_loads)) in
     codes "calls " ++ (decimal after.tally.calls ++ (codes " sum " ++ (decimal after.tally.sum ++ (codes " " ++ outcome_text (rule.outcome after.link.link)))))
@@ -59,7 +59,7 @@ told_text (Ok (word, told)) = codes "told " ++ decimal told
 told_text (Err why) = codes "refused " ++ decimal (number_of why)
 
 -- all that is printed of the requests of so many rounds, on a book of so many loads, within its limits
-abbrev pub requests_text : ℕ → ℕ → List ℕ
+unfoldable pub requests_text : ℕ → ℕ → List ℕ
 requests_text loads rounds =
     let held = max 1 (min loads most_loads) in
     let after = counts_all (requests_made held rounds) (at_start (readings_of held)) in

@@ -49,6 +49,7 @@ fn outcome_text(
 }
 
 /// Sends as many messages as there are rounds. Open: whether there is memory for the book and the text.
+#[tactic(auto, unfolding(crate::specs::Repeats::calls_text))]
 pub fn repeat(heap: Global, rounds: u64) -> Result<String, AllocError>
     ensures made { IfOk result (λ text. string_bytes text ≡ calls_text rounds) }
 {

@@ -145,6 +145,7 @@ fn sum_of_rounds(pairs: &mut [Pair], rounds: u64) -> u64
 }
 
 /// Writes and reads a block of frames in each round. Open: whether there is memory for the block and the text.
+#[tactic(auto, unfolding(crate::specs::Frames::frames_text))]
 pub fn repeat(heap: Global, rounds: u64) -> Result<String, AllocError>
     ensures made { IfOk result (λ text. string_bytes text ≡ frames_text rounds) }
 {

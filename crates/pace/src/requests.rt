@@ -62,6 +62,7 @@ fn told_text(heap: Global, outcome: Result<(Word, u32), LinkRefusal>) -> Result<
 
 /// Asks for as many messages as there are rounds, on a book of so many loads, at least 1 and at most 4,096. Open: whether there
 /// is memory for the book and the text.
+#[tactic(auto, unfolding(crate::specs::Repeats::requests_text))]
 pub fn repeat(heap: Global, loads: u16, rounds: u64) -> Result<String, AllocError>
     ensures made { IfOk result (λ text. string_bytes text ≡ requests_text loads rounds) }
 {
