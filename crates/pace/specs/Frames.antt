@@ -47,4 +47,5 @@ added_block values sum = added sum (fold added 0 values)
 -- all that is printed of so many rounds, each of which reads what a block has
 unfoldable pub frames_text : ℕ → List ℕ
 frames_text rounds =
-    codes "frames " ++ (decimal (rounds * (2 * block_length) % 2 ^ 64) ++ (codes " sum " ++ decimal (iterate (added_block block) rounds 0)))
+    codes "frames " ++ (decimal (rounds * (2 * block_length) % 2 ^ 64)
+    ++ (codes " sum " ++ decimal (iterate (added_block block) rounds 0)))

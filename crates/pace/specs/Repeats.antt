@@ -11,15 +11,11 @@ use Rattle.link.specs.Refusals.{number_of}
 use Rattle.link.specs.Words.{word_text}
 use Rattle.pace.specs.Links.{most_loads, readings_of, at_start, counts_all, delivery}
 
--- a text before a number
-abbrev pub named : List ℕ → ℕ → List ℕ
-named name number = name ++ decimal number
-
--- the call that asks for a round's message of three loads, from one place of the book to another
+-- where in the book the message of a round begins; three loads are always there from its place on
 abbrev pub message_start : ℕ → ℕ
 message_start round = round * 7 % 2 ^ 64 % 4093
 
--- the 17 calls of that message
+-- the 17 calls of that message, which has three loads
 abbrev pub message_calls : ℕ → List Call
 message_calls round = Request (message_start round) 3 ∷ (delivery ++ (delivery ++ (delivery ++ (Confirm ∷ []))))
 
@@ -36,7 +32,8 @@ outcome_text (Err why) = codes "refused " ++ decimal (number_of why)
 unfoldable pub calls_text : ℕ → List ℕ
 calls_text rounds =
     let after = counts_all (calls_made rounds) (at_start (readings_of most_loads)) in
-    codes "calls " ++ (decimal after.tally.calls ++ (codes " sum " ++ (decimal after.tally.sum ++ (codes " " ++ outcome_text (rule.outcome after.link.link)))))
+    codes "calls " ++ (decimal after.tally.calls ++ (codes " sum " ++ (decimal after.tally.sum
+    ++ (codes " " ++ outcome_text (rule.outcome after.link.link)))))
 
 -- the next number of a row that looks random
 abbrev pub next : ℕ → ℕ
@@ -63,4 +60,5 @@ unfoldable pub requests_text : ℕ → ℕ → List ℕ
 requests_text loads rounds =
     let held = max 1 (min loads most_loads) in
     let after = counts_all (requests_made held rounds) (at_start (readings_of held)) in
-    codes "requests " ++ (decimal rounds ++ (codes " sum " ++ (decimal after.tally.sum ++ (codes " " ++ told_text (rule.outcome after.link.link)))))
+    codes "requests " ++ (decimal rounds ++ (codes " sum " ++ (decimal after.tally.sum
+    ++ (codes " " ++ told_text (rule.outcome after.link.link)))))

@@ -1,8 +1,7 @@
 //! Messages of three loads, all delivered: 17 calls each.
-ghost use Rattle.std.specs.Prelude.{◌≡◌, ◌+◌, IfOk, string_bytes};
-ghost use Rattle.link.specs.declared.calls.Call.TheVariants as call;
+ghost use Rattle.std.specs.Prelude.{◌≡◌, IfOk, string_bytes};
 ghost use Rattle.pace.specs.Links.{counts_all};
-ghost use Rattle.pace.specs.Repeats.{message_start, message_calls, calls_made, outcome_text, calls_text};
+ghost use Rattle.pace.specs.Repeats.{message_calls, calls_made, outcome_text, calls_text};
 
 use crate::links::{CountedLink, MOST_LOADS, readings};
 use link::{LinkRefusal, Word};

@@ -2,7 +2,7 @@
 ghost use Rattle.std.specs.Prelude.{◌≡◌, ◌<◌, IfOk, All, string_bytes, vec_items, fold};
 ghost use Rattle.std.specs.Fn.{iterate};
 ghost use Rattle.std.specs.List.{flat_map};
-ghost use Rattle.pace.specs.Frames.{HoldsFrame, HoldsFrames, fields, fields_of, added, block_length, block, added_block, frames_text};
+ghost use Rattle.pace.specs.Frames.{HoldsFrame, HoldsFrames, fields, fields_of, added, block, added_block, frames_text};
 
 use loads::{Frame, LONGEST_FRAME, Load, Piece, Reading};
 use std::alloc::{AllocError, Global};
