@@ -24,7 +24,8 @@ line text = text ++ codes "\n"
 abbrev pub worked_lines : List ℕ
 worked_lines = line piece_lines ++ (line reading_lines ++ line reply_lines)
 
--- the octets of an input that are shown: one more than the longest frame has, so that a longer input is seen to be too long
+-- the octets of an input that are shown: one more than the longest frame has, so that a longer
+-- input is seen to be too long
 abbrev pub shown_octets : List ℕ → List ℕ
 shown_octets input = take 33 input
 
