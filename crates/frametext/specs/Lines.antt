@@ -7,6 +7,10 @@ use Rattle.frametext.specs.declared.anyframes.AnyFrame.{AnyFrame}
 use Rattle.frametext.specs.AnyFrames.{any_reads, frame_text}
 use Rattle.frametext.specs.Hexadecimals.{hexadecimal}
 
+-- a text on a line of its own
+abbrev pub line : List ℕ → List ℕ
+line text = text ++ codes "\n"
+
 -- a frame's text, or the number that turns octets down
 abbrev pub answer_text : Result AnyFrame Fault → List ℕ
 answer_text (Ok frame) = frame_text frame

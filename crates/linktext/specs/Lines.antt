@@ -1,5 +1,6 @@
 -- The printed lines of a link: of a call with its answer, and of an outcome.
 use Rattle.std.specs.Prelude.{ℕ, List, [], ◌∷◌, ◌++◌, Ok, Err, Result, codes, decimal}
+use Rattle.std.specs.List.{flat_map}
 use Rattle.loads.specs.declared.kinds.Load.{Ghosts}
 use Rattle.loads.specs.Refusals.{answer_number}
 use Rattle.link.specs.declared.events.Answer.{Answer}
@@ -10,6 +11,7 @@ use Rattle.link.specs.declared.words.Word.{Word}
 use Rattle.link.specs.Refusals.{number_of}
 use Rattle.link.specs.Words.{letter, heard_text, position_text, word_text}
 use Rattle.frametext.specs.Hexadecimals.{hexadecimal}
+use Rattle.frametext.specs.Lines.{line}
 
 -- by the load kind
 module _ {T : Type 0} (kind : Ghosts T) where
@@ -29,6 +31,10 @@ module _ {T : Type 0} (kind : Ghosts T) where
   abbrev pub call_text : Event T → List ℕ
   call_text event =
       letter event.call ∷ (codes " " ++ (decimal (answer_number number_of event.answer) ++ shown_text event.answer))
+
+  -- each call on a line of its own
+  abbrev pub event_lines : List (Event T) → List ℕ
+  event_lines events = flat_map (λ event. line (call_text event)) events
 
 -- the word of a message, and how many of its loads were told
 abbrev pub outcome_text : Word → ℕ → List ℕ

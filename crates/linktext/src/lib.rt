@@ -4,4 +4,4 @@
 
 mod lines;
 
-pub use lines::{call_line, outcome_line, push_call};
+pub use lines::{call_line, event_lines, outcome_line, push_call};

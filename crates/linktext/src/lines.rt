@@ -1,7 +1,7 @@
 //! The printed lines of a link: of a call with its answer, and of an outcome.
-ghost use Rattle.std.specs.Prelude.{◌≡◌, ◌++◌, IfOk, codes, string_bytes, decimal};
+ghost use Rattle.std.specs.Prelude.{◌≡◌, ◌++◌, ◌<◌, IfOk, IfErr, length, codes, string_bytes, decimal};
 ghost use Rattle.frametext.specs.Additions.{Adds};
-ghost use Rattle.linktext.specs.Lines.{load_text, shown_text, call_text, outcome_text};
+ghost use Rattle.linktext.specs.Lines.{load_text, shown_text, call_text, event_lines as lines_of, outcome_text};
 
 use frametext::push_hexadecimal;
 use link::{Answer, Event, LinkRefusal, Word};
@@ -74,6 +74,19 @@ pub fn call_line<T: Load>(heap: Global, event: &Event<T>) -> Result<String, Allo
     let mut text = String::new(heap);
     push_call(&mut text, event)?;
     Ok(text)
+}
+
+/// The same of each call, on a line of its own. Open: whether there is memory for them, where there are any.
+pub fn event_lines<T: Load>(heap: Global, events: &[Event<T>]) -> Result<String, AllocError>
+    ensures made { IfOk result (λ lines. string_bytes lines ≡ lines_of T.Load events.now) }
+    ensures memory { IfErr result (λ _. 0 < length events.now) }
+{
+    let mut lines = String::new(heap);
+    for event in events {
+        push_call(&mut lines, event)?;
+        lines.push('\n')?;
+    }
+    Ok(lines)
 }
 
 /// How a message ended, and how many of its loads the hut was told. Open: whether there is memory for the text.

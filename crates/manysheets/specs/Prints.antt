@@ -2,7 +2,8 @@
 use Rattle.std.specs.Prelude.{ℕ, ◌+◌, ◌-◌, ◌*◌, ◌≤◌, ◌⊎◌, List, [], ◌∷◌, ◌++◌, Contains, All, flat_map, nat_lt, if◌then◌else◌, ◌==◌}
 use Rattle.std.specs.List.{before_first, after_first}
 use Rattle.std.specs.Str.Lines.{lines}
-use Rattle.sheetrun.specs.Prints.{line, sheet_prints}
+use Rattle.frametext.specs.Lines.{line}
+use Rattle.sheetrun.specs.Prints.{sheet_prints}
 
 -- the value of a digit
 abbrev pub value_of : ℕ → ℕ

@@ -5,7 +5,8 @@ use Rattle.std.specs.Io.KnownBytes.{Appends}
 use Rattle.std.specs.Option.{IfSome}
 use Rattle.std.specs.Str.Lines.{lines}
 use Rattle.std.proofs.lemmas.List.{map-append}
-use Rattle.pace.specs.Tasks.{line, task_text, tasks_printed, tasks_text}
+use Rattle.frametext.specs.Lines.{line}
+use Rattle.pace.specs.Tasks.{task_text, tasks_printed, tasks_text}
 use Rattle.pace.proofs.Rounds.{flat_push}
 
 -- known octets grow by some, and then by others

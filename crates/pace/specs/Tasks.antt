@@ -1,9 +1,10 @@
 -- The tasks of an input, and all that they print.
-use Rattle.std.specs.Prelude.{ℕ, if◌then◌else◌, Bool, List, ◌++◌, codes, ◌==◌}
+use Rattle.std.specs.Prelude.{ℕ, if◌then◌else◌, Bool, List, codes, ◌==◌}
 use Rattle.std.specs.List.{flat_map, before_first, after_first}
 use Rattle.std.specs.Str.{byte, bytes_eq}
 use Rattle.std.specs.Str.Lines.{lines}
 use Rattle.std.specs.Str.Parse.{digits_value, without_leading_plus}
+use Rattle.frametext.specs.Lines.{line}
 use Rattle.pace.specs.Frames.{frames_text}
 use Rattle.pace.specs.Repeats.{calls_text, requests_text}
 
@@ -28,10 +29,6 @@ task_text task =
     if bytes_eq (first_word task) (codes "calls") then calls_text (number_of counts)
     else if bytes_eq (first_word task) (codes "frames") then frames_text (number_of counts)
     else requests_text (number_of (first_word counts)) (number_of (other_words counts))
-
--- a text on a line
-abbrev pub line : List ℕ → List ℕ
-line text = text ++ codes "\n"
 
 -- what tasks print, in order
 abbrev pub tasks_printed : List (List ℕ) → List ℕ

@@ -1,7 +1,8 @@
 //! The tasks of an input, one on each line, and all that they print.
 ghost use Rattle.std.specs.Prelude.{◌≡◌, IfOk, OnOk, IfSome, string_bytes};
 ghost use Rattle.std.specs.Io.KnownBytes.{Appends};
-ghost use Rattle.pace.specs.Tasks.{task_text, line, tasks_text};
+ghost use Rattle.frametext.specs.Lines.{line};
+ghost use Rattle.pace.specs.Tasks.{task_text, tasks_text};
 
 use crate::{calls, frames, requests};
 use anyhow::anyhow;

@@ -4,9 +4,9 @@ use Rattle.std.proofs.lemmas.List.{length-append}
 use Rattle.loads.specs.declared.kinds.Load.{Ghosts}
 use Rattle.link.specs.declared.calls.Call.{Call}
 use Rattle.link.specs.declared.events.Event.{Event}
-use Rattle.linktext.specs.Lines.{call_text}
+use Rattle.frametext.specs.Lines.{line}
+use Rattle.linktext.specs.Lines.{call_text, event_lines}
 use Rattle.sheetrun.specs.CallsByMarks.{MarkedLink, call_by_marks, calls_by_marks}
-use Rattle.sheetrun.specs.Prints.{line, event_lines}
 
 -- a line has at least its end
 line_some : (text more : List ℕ) → 0 < length (line text ++ more)

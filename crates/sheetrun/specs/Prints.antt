@@ -8,7 +8,8 @@ use Rattle.channels.specs.declared.marks.Mark.TheVariants.{Pass}
 use Rattle.link.specs.declared.events.Event.{Event}
 use Rattle.link.specs.Laws.{IsLawful}
 use Rattle.link.specs.States.{started}
-use Rattle.linktext.specs.Lines.{call_text}
+use Rattle.frametext.specs.Lines.{line}
+use Rattle.linktext.specs.Lines.{event_lines}
 use Rattle.sheet.specs.declared.anysheets.AnySheet.{AnySheet}
 use Rattle.sheet.specs.declared.anysheets.AnySheet.TheVariants.{Readings, Pieces}
 use Rattle.sheet.specs.declared.faults.SheetFault.{SheetFault}
@@ -34,14 +35,6 @@ module _ {T : Type 0} where
   -- the law holds of a sheet's run
   abbrev pub IsLawfulRun : SheetParts T → Type 0
   IsLawfulRun sheet = IsLawful sheet.book sheet.repeats (events_of sheet)
-
--- a text on a line
-abbrev pub line : List ℕ → List ℕ
-line text = text ++ codes "\n"
-
--- a line for each call with its answer
-abbrev pub event_lines : {T : Type 0} → Ghosts T → List (Event T) → List ℕ
-event_lines kind events = flat_map (λ event. line (call_text kind event)) events
 
 -- the lines of a sheet
 abbrev pub run_lines : AnySheet → List ℕ

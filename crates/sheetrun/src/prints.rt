@@ -2,27 +2,15 @@
 ghost use Rattle.std.specs.Prelude.{◌≡◌, ◌<◌, length, IfOk, IfErr, string_bytes};
 ghost use Rattle.sheet.specs.AnySheets.{sheet_reads};
 ghost use Rattle.sheet.specs.Faults.{fault_text};
-ghost use Rattle.sheetrun.specs.Prints.{line, event_lines as lines_of, events_of, sheet_prints, NeedsMemory, IsLawfulRun, RunsLawfully};
+ghost use Rattle.frametext.specs.Lines.{line};
+ghost use Rattle.linktext.specs.Lines.{event_lines as lines_of};
+ghost use Rattle.sheetrun.specs.Prints.{events_of, sheet_prints, NeedsMemory, IsLawfulRun, RunsLawfully};
 
 use crate::runs::sheet_events;
-use link::Event;
-use linktext::push_call;
+use linktext::event_lines;
 use loads::Load;
 use sheet::{AnySheet, ReadError, Sheet, SheetFault, fault_line};
 use std::alloc::{AllocError, Global};
-
-// A line for each call with its answer. Open: whether there is memory for them, where there are any.
-fn event_lines<T: Load>(heap: Global, events: &[Event<T>]) -> Result<String, AllocError>
-    ensures made { IfOk result (λ text. string_bytes text ≡ lines_of T.Load events.now) }
-    ensures memory { IfErr result (λ _. 0 < length events.now) }
-{
-    let mut text = String::new(heap);
-    for event in events {
-        push_call(&mut text, event)?;
-        text.push('\n')?;
-    }
-    Ok(text)
-}
 
 // What the run of a sheet prints. Open: whether there is memory for it, where it prints anything.
 fn run_lines<'s, T: Load>(heap: Global, sheet: &Sheet<'s, T>) -> Result<String, AllocError>

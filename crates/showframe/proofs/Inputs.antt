@@ -3,7 +3,8 @@ use Rattle.std.proofs.Common.{◌≡◌, ◌++◌, ℕ, List, take, Option, None
 use Rattle.std.proofs.KnownBytes.{Appends-trans}
 use Rattle.std.specs.Io.KnownBytes.{Appends}
 use Rattle.frametext.specs.Lines.{frame_line}
-use Rattle.showframe.specs.Prints.{line, shown_octets, input_line}
+use Rattle.frametext.specs.Lines.{line}
+use Rattle.showframe.specs.Prints.{shown_octets, input_line}
 
 -- what is known up to a limit, of an input that is known
 pub read_limited : (known : Option (List ℕ)) (limit : ℕ) (octets : List ℕ) → IfSome (option_map (take limit) known) (λ all. octets ≡ all) → IfSome known (λ all. octets ≡ take limit all)

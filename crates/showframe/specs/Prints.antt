@@ -1,6 +1,6 @@
 -- All that the program prints: the lines of three worked frames, and the line of an input.
 use Rattle.std.specs.Prelude.{ℕ, List, [], ◌∷◌, ◌++◌, take, codes}
-use Rattle.frametext.specs.Lines.{frame_line, changed_lines}
+use Rattle.frametext.specs.Lines.{line, frame_line, changed_lines}
 
 -- the first piece of a message, and a copy with a zoom that no map has
 abbrev pub piece_lines : List ℕ
@@ -15,10 +15,6 @@ reading_lines = changed_lines (0x81 ∷ 0 ∷ 0 ∷ 0 ∷ 7 ∷ []) 0 0x9F
 -- the reply to the last load of a message, and a copy that has become a reading without its octets
 abbrev pub reply_lines : List ℕ
 reply_lines = changed_lines (0x60 ∷ []) 0 0x61
-
--- a text on a line
-abbrev pub line : List ℕ → List ℕ
-line text = text ++ codes "\n"
 
 -- the lines of the worked frames
 abbrev pub worked_lines : List ℕ

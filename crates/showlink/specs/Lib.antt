@@ -1,1 +1,2 @@
 pub mod Sendings
+pub mod Prints

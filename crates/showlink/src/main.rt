@@ -2,7 +2,8 @@
 
 #![tactic(auto)]
 
-ghost use Rattle.std.specs.Prelude.{◌≡◌, map, Ok, Err, IfOk, IfErr, MatchResult};
+ghost use Rattle.std.specs.Prelude.{◌≡◌, ℕ, List, map, Ok, Err, IfOk, IfErr, OnOk, MatchResult};
+ghost use Rattle.std.specs.Io.KnownBytes.{Appends};
 ghost use Rattle.link.specs.States.{plain, new_link, joined_link, started};
 ghost use Rattle.link.specs.Calls.{join, outcome};
 ghost use Rattle.link.specs.Histories.{HistoryLeads};
@@ -10,12 +11,15 @@ ghost use Rattle.link.specs.Laws.{IsLawful, outcome_of};
 ghost use Rattle.link.specs.Runs.{Runs, call_of};
 ghost use Rattle.link.specs.JoinedRuns.{left_by};
 ghost use Rattle.showlink.specs.Sendings.{sendings};
+ghost use Rattle.showlink.specs.Prints.{Shows};
 
 use channel::Channel;
 use channels::{Rain, Store, Wire};
 use link::{Answer, Call, Event, Link, NotRun, Word};
-use linktext::{call_line, outcome_line};
+use linktext::{event_lines, outcome_line};
 use loads::{Book, EmptyLoad, Reading};
+use std::alloc::Global;
+use std::io::Write;
 
 // Readings 7, 8 and 9.
 const OCTETS: [u8; 12] = [0, 0, 0, 7, 0, 0, 0, 8, 0, 0, 0, 9];
@@ -83,15 +87,26 @@ fn send_three<K: Channel<Reading>, L: Channel<EmptyLoad>>(
     Ok((link, log))
 }
 
-fn main(rt: HostRuntime) -> anyhow::Result<()> {
-    let book = Book::<Reading>::read(rt.alloc(), 3, &OCTETS)?;
+// Sends the three readings, and writes the lines of the calls and of the outcome. Open: what becomes of the frames; whether
+// there is memory for it; and what the output holds after an error.
+fn show_three<W: Write>(heap: Global, output: &mut W) -> anyhow::Result<()>
+    ensures printed { OnOk result
+        ((text : List ℕ) × Shows text × Appends (W.contents output.old) (W.contents output.new) text) }
+{
+    let book = Book::<Reading>::read(heap, 3, &OCTETS)?;
     let to_hut = Rain::new(Wire::new(), &[1]).unwrap();
     let back = Rain::new(Store::new(), &[0, 1]).unwrap();
-    let (link, log) = send_three(to_hut, back, &book).map_err(|not| not.refusal)?;
-    for event in &log {
-        rt.println(call_line(rt.alloc(), event)?)?;
-    }
+    let (link, log) = match send_three(to_hut, back, &book) {
+        Ok(sent) => sent,
+        Err(not) => return Err(not.refusal.into()),
+    };
     let (word, told) = link.outcome()?;
-    rt.println(outcome_line(rt.alloc(), word, told)?)?;
+    let lines = event_lines(heap, &log)?;
+    let last = outcome_line(heap, word, told)?;
+    output.write_all(format!(in heap; "{lines}{last}\n")?.as_bytes())?;
     Ok(())
+}
+
+fn main(rt: HostRuntime) -> anyhow::Result<()> {
+    show_three(rt.alloc(), &mut rt.stdout())
 }

@@ -1,5 +1,6 @@
 use Rattle.std.proofs.KnownBytes.{Appends-trans}
-use Rattle.showframe.specs.Prints.{line, piece_lines, reading_lines, reply_lines}
+use Rattle.frametext.specs.Lines.{line}
+use Rattle.showframe.specs.Prints.{piece_lines, reading_lines, reply_lines}
 use Rattle.showframe.proofs.write_worked.Goals as goal
 
 pub returns : goal.returns
