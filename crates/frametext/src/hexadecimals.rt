@@ -28,7 +28,7 @@ fn push_octet(text: &mut String, octet: u8) -> Result<(), AllocError>
 /// Adds two digits for each octet to a text, and nothing between them. Where memory is wanting, the
 /// text has a front of them, and not all. Open: whether it is wanting, where the text has no room
 /// for them.
-/// Not by the kit's crate `hex`, which does not say that no octets need no memory.
+// not by the kit's crate `hex`, which does not say that no octets need no memory
 pub fn push_hexadecimal(text: &mut String, octets: &[u8]) -> Result<(), AllocError>
     ensures added { Adds text.old text.new (hexadecimal_of octets.now) result }
 {

@@ -53,7 +53,8 @@ fn named_lines(heap: Global, line: &str) -> anyhow::Result<String>
 
 // The lines of a text. Open: whether there is memory for them.
 fn lines_of(heap: Global, text: &str) -> Result<Vec<&str>, AllocError>
-    ensures made { IfOk result (λ found. map (λ line. line.now) (vec_items found) ≡ lines text.now) }
+    ensures made { IfOk result
+        (λ found. map (λ line. line.now) (vec_items found) ≡ lines text.now) }
 {
     text.lines().collect(heap)
 }
@@ -71,7 +72,7 @@ fn write_lines<W: Write>(heap: Global, found: &[&str], output: &mut W) -> anyhow
 }
 
 // Runs the sheets that a reader gives, one on a line with its name, and writes what each of them prints, behind its name.
-// Open: whether there is memory for it; and what the output holds after an error.
+// Open: whether it ends without an error, and what the output holds after one.
 fn run_sheets<R: Read + Drop, W: Write>(
     heap: Global,
     mut input: R,

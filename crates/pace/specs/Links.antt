@@ -2,11 +2,9 @@
 use Rattle.std.specs.Prelude.{ℕ, ◌*◌, ◌%◌, ◌^◌, List, [], ◌∷◌, map, fold}
 use Rattle.std.specs.List.{range_with_len}
 use Rattle.loads.specs.declared.readings.Reading.{Reading}
-use Rattle.channels.specs.declared.marks.Mark.TheVariants.{Pass}
 use Rattle.link.specs.declared.calls.Call.{Call}
 use Rattle.link.specs.declared.calls.Call.TheVariants.{Send, Carry, Tell, Reply, Return}
-use Rattle.link.specs.States.{started}
-use Rattle.sheetrun.specs.CallsByMarks.{MarkedLink, call_by_marks}
+use Rattle.sheetrun.specs.CallsByMarks.{MarkedLink, link_over, call_by_marks}
 use Rattle.pace.specs.declared.tallies.Tally.{Tally}
 use Rattle.pace.specs.Tallies.{no_calls, counted}
 
@@ -28,17 +26,9 @@ reading_at place = record { value = place * 2654435761 % 2 ^ 32 }
 unfoldable pub readings_of : ℕ → List Reading
 readings_of loads = map reading_at (range_with_len 0 loads)
 
--- a link that joined with 2 repeats over two empty channels, which lose and delay nothing
-abbrev pub clear_link : MarkedLink Reading
-clear_link = record {
-  link = started 2;
-  to_hut = record { mark = Pass; ahead = [] };
-  back = record { mark = Pass; ahead = [] };
-}
-
--- before the first call
+-- before the first call: the link has joined with 2 repeats, and its channels lose and delay nothing
 abbrev pub at_start : List Reading → CountedState
-at_start book = record { book = book; link = clear_link; tally = no_calls }
+at_start book = record { book = book; link = link_over 2 [] []; tally = no_calls }
 
 -- one call, which is counted with its answer
 unfoldable pub counts : CountedState → Call → CountedState

@@ -1,10 +1,10 @@
 //! A link over empty rains that sends from a book, and the tally of its calls.
-ghost use Rattle.std.specs.Prelude.{◌≡◌, IfOk};
+ghost use Rattle.std.specs.Prelude.{◌≡◌, [], IfOk};
 ghost use Rattle.loads.specs.Readings.{readings as reading_kind};
 ghost use Rattle.link.specs.declared.calls.Call.TheVariants as call;
 ghost use Rattle.link.specs.Calls as rule;
-ghost use Rattle.sheetrun.specs.CallsByMarks.{marked_link};
-ghost use Rattle.pace.specs.Links.{CountedState, readings_of, clear_link, at_start, counts, counts_all, delivery};
+ghost use Rattle.sheetrun.specs.CallsByMarks.{marked_link, link_over};
+ghost use Rattle.pace.specs.Links.{CountedState, readings_of, at_start, counts, counts_all, delivery};
 ghost use Rattle.pace.specs.Tallies.{word_number};
 
 use crate::tallies::Tally;
@@ -20,7 +20,7 @@ pub const MOST_LOADS: u16 = 4096;
 
 /// A link that has joined with 2 repeats, and loses and delays nothing.
 pub fn joined_link() -> RainedLink<'static, Reading>
-    ensures answer { marked_link reading_kind result ≡ clear_link }
+    ensures answer { marked_link reading_kind result ≡ link_over 2 [] [] }
 {
     let to_hut = Rain::new(Wire::new(), &[]).unwrap();
     let back = Rain::new(Store::new(), &[]).unwrap();

@@ -1,18 +1,19 @@
 //! The tasks of an input, one on each line, and all that they print.
-ghost use Rattle.std.specs.Prelude.{◌≡◌, IfOk, OnOk, IfSome, string_bytes};
+ghost use Rattle.std.specs.Prelude.{◌≡◌, true, IfOk, OnOk, IfSome, string_bytes};
 ghost use Rattle.std.specs.Io.KnownBytes.{Appends};
 ghost use Rattle.frametext.specs.Lines.{line};
-ghost use Rattle.pace.specs.Tasks.{task_text, tasks_text};
+ghost use Rattle.pace.specs.Tasks.{is_task, task_text, HasTasks, tasks_text};
 
 use crate::{calls, frames, requests};
 use anyhow::anyhow;
 use std::alloc::Global;
 use std::io::{Read, Write};
 
-// What a task comes to: what is repeated, on how many loads for requests, and how often. Open: when it is a task, and whether
-// there is memory for it.
+// What a task comes to: what is repeated, on how many loads for requests, and how often. Open: which words are numbers, and
+// whether there is memory for it.
 fn task_text(heap: Global, task: &str) -> anyhow::Result<String>
     ensures made { IfOk result (λ text. string_bytes text ≡ task_text task.now) }
+    ensures named { OnOk result (is_task task.now ≡ true) }
 {
     let Some((name, counts)) = task.split_once(' ') else {
         return Err(anyhow!("no task"));
@@ -36,6 +37,7 @@ fn task_text(heap: Global, task: &str) -> anyhow::Result<String>
 fn print_task<W: Write>(heap: Global, task: &str, output: &mut W) -> anyhow::Result<()>
     ensures printed { OnOk result (Appends (W.contents output.old) (W.contents output.new)
         (line (task_text task.now))) }
+    ensures named { OnOk result (is_task task.now ≡ true) }
 {
     let mut text = task_text(heap, task)?;
     text.push('\n')?;
@@ -43,8 +45,8 @@ fn print_task<W: Write>(heap: Global, task: &str, output: &mut W) -> anyhow::Res
     Ok(())
 }
 
-/// Reads the tasks, and prints what they come to. Open: when each line is a task, and whether there is memory for them, and
-/// whether the input can be read and the output written.
+/// Reads the tasks, one on each line, and prints what they come to. Open: whether it ends without an error, and what the output
+/// holds after one.
 pub fn print_tasks<R: Read, W: Write>(
     heap: Global,
     input: &mut R,
@@ -52,6 +54,7 @@ pub fn print_tasks<R: Read, W: Write>(
 ) -> anyhow::Result<()>
     ensures printed { OnOk result (IfSome (R.remaining input.old) (λ octets.
         Appends (W.contents output.old) (W.contents output.new) (tasks_text octets))) }
+    ensures named { OnOk result (IfSome (R.remaining input.old) (λ octets. HasTasks octets)) }
 {
     let mut text = String::new(heap);
     input.read_to_string(&mut text)?;

@@ -1,5 +1,5 @@
 -- Calls on a link over two rains, each over a channel that neither delays nor loses: what is answered, by the marks.
-use Rattle.std.specs.Prelude.{List, [], ◌∷◌, Ok, fold}
+use Rattle.std.specs.Prelude.{ℕ, List, [], ◌∷◌, Ok, fold}
 use Rattle.loads.specs.declared.empties.EmptyLoad.{EmptyLoad}
 use Rattle.loads.specs.declared.frames.Frame.{Frame}
 use Rattle.loads.specs.declared.kinds.Load as loads
@@ -22,7 +22,7 @@ use Rattle.link.specs.declared.words.Heard.{Heard}
 use Rattle.link.specs.declared.words.Heard.TheVariants.{Still, Arrived, Lost}
 use Rattle.link.specs.Calls.{made}
 use Rattle.link.specs.Effects.{Effect}
-use Rattle.link.specs.States.{LinkState, LinkParts, plain}
+use Rattle.link.specs.States.{LinkState, LinkParts, plain, started}
 
 -- the marks of a rain: of the frame that waits, and of those to come
 pub record RainMarks : Type 0 where
@@ -34,6 +34,14 @@ pub record MarkedLink (T : Type 0) : Type 0 where
   pub link : LinkState T
   pub to_hut : RainMarks
   pub back : RainMarks
+
+-- a link that joined with these repeats, over two empty channels, with these marks to come
+abbrev pub link_over : {T : Type 0} → ℕ → List Mark → List Mark → MarkedLink T
+link_over repeats to_hut back = record {
+  link = started repeats;
+  to_hut = record { mark = Pass; ahead = to_hut };
+  back = record { mark = Pass; ahead = back };
+}
 
 -- what becomes of a frame with this mark
 abbrev pub heard_by_mark : Mark → Heard

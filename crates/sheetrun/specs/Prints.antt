@@ -4,10 +4,8 @@ use Rattle.std.specs.List.{flat_map}
 use Rattle.loads.specs.declared.kinds.Load.{Ghosts}
 use Rattle.loads.specs.Pieces.{pieces}
 use Rattle.loads.specs.Readings.{readings}
-use Rattle.channels.specs.declared.marks.Mark.TheVariants.{Pass}
 use Rattle.link.specs.declared.events.Event.{Event}
 use Rattle.link.specs.Laws.{IsLawful}
-use Rattle.link.specs.States.{started}
 use Rattle.frametext.specs.Lines.{line}
 use Rattle.linktext.specs.Lines.{event_lines}
 use Rattle.sheet.specs.declared.anysheets.AnySheet.{AnySheet}
@@ -17,20 +15,12 @@ use Rattle.sheet.specs.AnySheets.{sheet_reads, HasOctetsBefore}
 use Rattle.sheet.specs.Layouts.{most_octets, layout_reads}
 use Rattle.sheet.specs.Faults.{fault_text}
 use Rattle.sheet.specs.Sheets.{SheetParts}
-use Rattle.sheetrun.specs.CallsByMarks.{MarkedLink, calls_by_marks}
+use Rattle.sheetrun.specs.CallsByMarks.{link_over, calls_by_marks}
 
 module _ {T : Type 0} where
-  -- a link that joined with the repeats of a sheet, over two empty channels, with all marks to come
-  abbrev pub link_at_start : SheetParts T → MarkedLink T
-  link_at_start sheet = record {
-    link = started sheet.repeats;
-    to_hut = record { mark = Pass; ahead = sheet.to_hut };
-    back = record { mark = Pass; ahead = sheet.back };
-  }
-
   -- the calls of a sheet with their answers
   abbrev pub events_of : SheetParts T → List (Event T)
-  events_of sheet = (calls_by_marks sheet.book sheet.calls (link_at_start sheet)).0
+  events_of sheet = (calls_by_marks sheet.book sheet.calls (link_over sheet.repeats sheet.to_hut sheet.back)).0
 
   -- the law holds of a sheet's run
   abbrev pub IsLawfulRun : SheetParts T → Type 0

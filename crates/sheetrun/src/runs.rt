@@ -2,8 +2,8 @@
 ghost use Rattle.std.specs.Prelude.{◌≡◌, ◌<◌, List, [], length, take, IfOk, IfErr, vec_items};
 ghost use Rattle.link.specs.Histories.{HistoryLeads};
 ghost use Rattle.link.specs.Runs.{StaysLawful, run_answer, run_count, written, behind};
-ghost use Rattle.sheetrun.specs.Prints.{link_at_start, events_of, IsLawfulRun};
-ghost use Rattle.sheetrun.specs.CallsByMarks.{marked_link, calls_by_marks};
+ghost use Rattle.sheetrun.specs.Prints.{events_of, IsLawfulRun};
+ghost use Rattle.sheetrun.specs.CallsByMarks.{marked_link, link_over, calls_by_marks};
 
 use channels::{Rain, Store, Wire};
 use link::{Answer, Call, Event, Link, LinkRefusal};
@@ -52,7 +52,8 @@ fn run_whole<'m, T: Load>(
 
 // A link over the marks of a sheet, joined with its repeats.
 fn joined_link<'m, 's, T: Load>(sheet: &'m Sheet<'s, T>) -> RainedLink<'m, T>
-    ensures answer { marked_link T.Load result ≡ link_at_start sheet.now }
+    ensures answer { marked_link T.Load result
+        ≡ link_over sheet.now.repeats sheet.now.to_hut sheet.now.back }
     ensures law { (book : List T) →
         HistoryLeads book sheet.now.repeats [] (marked_link T.Load result).link }
 {

@@ -24,11 +24,11 @@ fn read_octets<R: Read + Drop>(heap: Global, input: R) -> io::Result<Vec<u8>>
 }
 
 /// Reads octets, runs the sheet that they are, and writes all that it prints. It reads one octet more than a sheet may have,
-/// so that a longer input is seen to be too long. Open: whether there is memory for it; and what the output holds after an
-/// error.
+/// so that a longer input is seen to be too long. Open: whether it ends without an error, and what the output holds after one.
 pub fn run_sheet<R: Read + Drop, W: Write>(heap: Global, input: R, output: &mut W) -> io::Result<()>
     ensures printed { OnOk result (IfSome (R.remaining input) (λ all.
-        Appends (W.contents output.old) (W.contents output.new) (sheet_prints (sheet_octets all)))) }
+        Appends (W.contents output.old) (W.contents output.new)
+        (sheet_prints (sheet_octets all)))) }
     ensures law { OnOk result (IfSome (R.remaining input) (λ all.
         RunsLawfully (sheet_reads (sheet_octets all)))) }
 {

@@ -1,5 +1,6 @@
 -- All that the program prints: the lines of three worked frames, and the line of an input.
-use Rattle.std.specs.Prelude.{ℕ, List, [], ◌∷◌, ◌++◌, take, codes}
+use Rattle.std.specs.Prelude.{ℕ, ◌+◌, List, [], ◌∷◌, ◌++◌, take, codes}
+use Rattle.frametext.specs.AnyFrames.{longest_frame}
 use Rattle.frametext.specs.Lines.{line, frame_line, changed_lines}
 
 -- the first piece of a message, and a copy with a zoom that no map has
@@ -23,7 +24,7 @@ worked_lines = line piece_lines ++ (line reading_lines ++ line reply_lines)
 -- the octets of an input that are shown: one more than the longest frame has, so that a longer
 -- input is seen to be too long
 abbrev pub shown_octets : List ℕ → List ℕ
-shown_octets input = take 33 input
+shown_octets input = take (longest_frame + 1) input
 
 -- the line of an input
 abbrev pub input_line : List ℕ → List ℕ

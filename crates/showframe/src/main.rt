@@ -87,8 +87,8 @@ fn read_octets<R: Read + Drop>(heap: Global, input: R) -> io::Result<Vec<u8>>
     Ok(octets)
 }
 
-// Writes the lines of the worked frames, and then the line of what it reads. Open: whether there is
-// memory for them; and what the output holds after an error.
+// Writes the lines of the worked frames, and then the line of what it reads. Open: whether it ends
+// without an error, and what the output holds after one.
 fn show_frames<R: Read + Drop, W: Write>(
     heap: Global,
     input: R,

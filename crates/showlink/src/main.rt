@@ -11,7 +11,7 @@ ghost use Rattle.link.specs.Laws.{IsLawful, outcome_of};
 ghost use Rattle.link.specs.Runs.{Runs, call_of};
 ghost use Rattle.link.specs.JoinedRuns.{left_by};
 ghost use Rattle.showlink.specs.Sendings.{sendings};
-ghost use Rattle.showlink.specs.Prints.{Shows};
+ghost use Rattle.showlink.specs.Prints.{three, sent, three_lines};
 
 use channel::Channel;
 use channels::{Rain, Store, Wire};
@@ -87,11 +87,12 @@ fn send_three<K: Channel<Reading>, L: Channel<EmptyLoad>>(
     Ok((link, log))
 }
 
-// Sends the three readings, and writes the lines of the calls and of the outcome. Open: what becomes of the frames; whether
-// there is memory for it; and what the output holds after an error.
+// Sends the three readings, and writes the lines of the calls and of the outcome. Open: whether it ends without an error, and
+// what the output holds after one.
 fn show_three<W: Write>(heap: Global, output: &mut W) -> anyhow::Result<()>
     ensures printed { OnOk result
-        ((text : List ℕ) × Shows text × Appends (W.contents output.old) (W.contents output.new) text) }
+        (Appends (W.contents output.old) (W.contents output.new) three_lines) }
+    ensures law { OnOk result (IsLawful three 2 sent.0) }
 {
     let book = Book::<Reading>::read(heap, 3, &OCTETS)?;
     let to_hut = Rain::new(Wire::new(), &[1]).unwrap();

@@ -59,8 +59,8 @@ fn use_lines<T: Load>(heap: Global, uses: &[Used<T>]) -> Result<String, AllocErr
     Ok(text)
 }
 
-// Puts the first frame of a message into the pile, and writes a line for each use. Open: whether
-// there is memory for them; and what the output holds after an error.
+// Puts the first frame of a message into the pile, and writes a line for each use. Open: whether it
+// ends without an error, and what the output holds after one.
 fn show_pile<W: Write>(heap: Global, output: &mut W) -> io::Result<()>
     ensures printed { OnOk result
         (Appends (W.contents output.old) (W.contents output.new) pile_lines) }

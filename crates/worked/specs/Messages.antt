@@ -2,14 +2,12 @@
 use Rattle.std.specs.Prelude.{ℕ, List, Result}
 use Rattle.loads.specs.declared.readings.Reading.{Reading}
 use Rattle.channels.specs.declared.marks.Mark.{Mark}
-use Rattle.channels.specs.declared.marks.Mark.TheVariants.{Pass}
 use Rattle.link.specs.declared.calls.Call.{Call}
 use Rattle.link.specs.declared.events.Event.{Event}
 use Rattle.link.specs.declared.refusals.LinkRefusal.{LinkRefusal}
 use Rattle.link.specs.declared.words.Word.{Word}
 use Rattle.link.specs.Calls as rule
-use Rattle.link.specs.States.{started}
-use Rattle.sheetrun.specs.CallsByMarks.{MarkedLink, calls_by_marks}
+use Rattle.sheetrun.specs.CallsByMarks.{link_over, calls_by_marks}
 
 -- a message: its repeats, its book, the marks to come of each way, its calls with their answers, and its outcome
 pub record MessageParts : Type 0 where
@@ -20,15 +18,7 @@ pub record MessageParts : Type 0 where
   pub events : List (Event Reading)
   pub outcome : Result (Word × ℕ) LinkRefusal
 
--- a link that joined with the repeats over two empty channels, with these marks to come
-abbrev pub link_over : ℕ → List Mark → List Mark → MarkedLink Reading
-link_over repeats to_hut back = record {
-  link = started repeats;
-  to_hut = record { mark = Pass; ahead = to_hut };
-  back = record { mark = Pass; ahead = back };
-}
-
--- what calls on such a link come to
+-- what calls come to on a link over two rains that joined with these repeats, with these marks to come
 abbrev pub message_of : ℕ → List Reading → List Mark → List Mark → List Call → MessageParts
 message_of repeats book to_hut back calls =
     let made = calls_by_marks book calls (link_over repeats to_hut back) in

@@ -3,8 +3,8 @@ ghost use Rattle.std.specs.Prelude.{◌≡◌, ◌≤◌, IfOk, List, length, ve
 ghost use Rattle.channels.specs.Marks.{most_marks};
 ghost use Rattle.link.specs.Timers.{most_repeats};
 ghost use Rattle.loads.specs.Readings.{readings};
-ghost use Rattle.sheetrun.specs.CallsByMarks.{marked_link, calls_by_marks};
-ghost use Rattle.worked.specs.Messages.{MessageParts, link_over, message_of};
+ghost use Rattle.sheetrun.specs.CallsByMarks.{marked_link, link_over, calls_by_marks};
+ghost use Rattle.worked.specs.Messages.{MessageParts, message_of};
 
 use channels::{Mark, Rain, Store, Wire};
 use link::{Answer, Call, Event, Link, LinkRefusal, Word};

@@ -1,13 +1,13 @@
 use Rattle.std.proofs.Common.{rules}
 use Rattle.std.proofs.lemmas.Result.{IfErr-weaker}
-use Rattle.sheetrun.specs.Prints.{link_at_start}
+use Rattle.sheetrun.specs.CallsByMarks.{link_over}
 use Rattle.sheetrun.proofs.Lines.{lines_some, run_lines_some}
 use Rattle.sheetrun.proofs.prints.run_lines.Goals as goal
 
 pub returns-in_err-sheet_events-clause-memory : goal.returns-in_err-sheet_events-clause-memory
 returns-in_err-sheet_events-clause-memory g c =
     let sheet = c.args.sheet.now in
-    let some = run_lines_some g.T.Load sheet.book sheet.calls (link_at_start sheet) c.in_err-sheet_events.ensures.memory in
+    let some = run_lines_some g.T.Load sheet.book sheet.calls (link_over sheet.repeats sheet.to_hut sheet.back) c.in_err-sheet_events.ensures.memory in
     search (rules, some)
 
 pub returns-clause-memory : goal.returns-clause-memory
