@@ -5,9 +5,9 @@ use channels::{Hop, Rain, Store};
 use link::Link;
 use loads::{EmptyLoad, Frame};
 
-// A store without `Drop`: a value of it that is neither returned nor taken apart is refused by the compiler.
-struct Kept {
-    store: Store<EmptyLoad>,
+/// A store without `Drop`: a value of it that is neither returned nor taken apart is refused by the compiler.
+pub struct Kept {
+    pub store: Store<EmptyLoad>,
 }
 
 impl Channel<EmptyLoad> for Kept {
@@ -26,7 +26,8 @@ impl Channel<EmptyLoad> for Kept {
     }
 }
 
-fn make_kept() -> Kept {
+/// An empty one.
+pub fn make_kept() -> Kept {
     Kept {
         store: Store::new(),
     }

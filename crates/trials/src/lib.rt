@@ -13,6 +13,8 @@ mod hopcases;
 #[cfg(test)]
 mod hutcases;
 #[cfg(test)]
+mod joinedruncases;
+#[cfg(test)]
 mod keptcases;
 #[cfg(test)]
 mod linkends;

@@ -1,10 +1,10 @@
 //! Runs of a link: one after another, with a short log, and on a link that is not joined.
 use crate::linksteps::Step::{Join, Make, Outcome};
 use crate::linksteps::{
-    ARRIVED, Answered, DONE, FIRST_7, LAST_8, NOT_DUE, OK, Step, TWO, follow_link, readings,
+    ARRIVED, Answered, DONE, FIRST_7, LAST_8, NOT_DUE, OK, Step, TWO, UNUSED, follow_link, readings,
 };
 use channels::{Store, Wire};
-use link::{Answer, Call, Event, Link, LinkRefusal, Word};
+use link::{Call, Event, Link, LinkRefusal, Word};
 use loads::{Book, EmptyLoad, Reading};
 use std::alloc::Global;
 use std::process::Abort;
@@ -25,12 +25,6 @@ struct Case {
     start: &'static [Step<Reading>],
     runs: &'static [Run],
 }
-
-// An event that no run here writes.
-const UNUSED: Event<Reading> = Event {
-    call: Call::Meet,
-    answer: Ok(Answer::Confirmed(Word::DontKnow)),
-};
 
 const NOT_JOINED: Answered<Reading> = Err(LinkRefusal::NotJoined);
 

@@ -2,7 +2,7 @@
 use crate::crossings::below;
 use channel::Channel;
 use channels::{Store, Wire};
-use link::{Answer, Call, Heard, Link, LinkRefusal, Position, Word};
+use link::{Answer, Call, Event, Heard, Link, LinkRefusal, Position, Word};
 use loads::{Book, EmptyLoad, Load, Reading};
 use std::alloc::Global;
 use std::fmt::Debug;
@@ -42,6 +42,12 @@ pub const ONE: Call = Call::Request { start: 0, count: 1 };
 pub const TWO: Call = Call::Request { start: 0, count: 2 };
 
 pub const THREE: Call = Call::Request { start: 0, count: 3 };
+
+/// An event that no run writes.
+pub const UNUSED: Event<Reading> = Event {
+    call: Call::Meet,
+    answer: DONT_KNOW,
+};
 
 /// What is done with a link, with what it must answer.
 #[derive(Clone, Copy, Debug, PartialEq)]

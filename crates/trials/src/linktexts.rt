@@ -3,7 +3,7 @@ use crate::linksteps::{
     ARRIVED, Answered, DONE, DONT_KNOW, LOST, NOT_DUE, NOT_OK, OK, ONE, ONLY_7, STILL,
 };
 use link::{Answer, Call, Event, LinkRefusal, Position, Word};
-use linktext::{call_line, outcome_line};
+use linktext::{call_line, event_lines, outcome_line, push_call};
 use loads::{EmptyLoad, Load, Piece, Reading};
 use std::alloc::Global;
 use std::process::Abort;
@@ -85,6 +85,49 @@ fn a_line_shows_the_octets_of_any_load(rt: HostRuntime) -> Result<(), Fail> {
     have_lines(&rt, rt.alloc(), &[(Call::Tell, told, line)])?;
     let told = Ok(Answer::Told(Position::Ok, EmptyLoad));
     have_lines(&rt, rt.alloc(), &[(Call::Tell, told, "T 0 OK ")])
+}
+
+const ASKED: Event<Reading> = Event {
+    call: ONE,
+    answer: DONE,
+};
+
+const TOLD: Event<Reading> = Event {
+    call: Call::Tell,
+    answer: FIRST_10,
+};
+
+// A text, the event that is added behind it, and the text then.
+const ADDED: [(&str, Event<Reading>, &str); 3] = [
+    ("", ASKED, "Q 0"),
+    ("N 4\n", ASKED, "N 4\nQ 0"),
+    ("Q 0", TOLD, "Q 0T 0 FIRST 0000000A"),
+];
+
+#[test]
+fn a_call_is_added_behind_a_text(rt: HostRuntime) -> Result<(), Fail> {
+    for (before, event, after) in ADDED {
+        let mut text = String::new(rt.alloc());
+        text.push_str(before)?;
+        push_call(&mut text, &event)?;
+        assert_eq!(rt; text.as_str(), after);
+    }
+    Ok(())
+}
+
+// Events, and their lines.
+const EVENT_LINES: [(&[Event<Reading>], &str); 3] = [
+    (&[], ""),
+    (&[TOLD], "T 0 FIRST 0000000A\n"),
+    (&[ASKED, TOLD], "Q 0\nT 0 FIRST 0000000A\n"),
+];
+
+#[test]
+fn each_event_has_a_line(rt: HostRuntime) -> Result<(), Fail> {
+    for (events, lines) in EVENT_LINES {
+        assert_eq!(rt; event_lines(rt.alloc(), events)?.as_str(), lines);
+    }
+    Ok(())
 }
 
 #[test]

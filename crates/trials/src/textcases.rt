@@ -1,6 +1,6 @@
 //! The text of frames and of what became of them.
 use channel::{Full, Poll, Used};
-use frametext::{AnyFrame, frame_line, frame_lines, hexadecimal, use_line};
+use frametext::{AnyFrame, frame_line, frame_lines, hexadecimal, push_hexadecimal, use_line};
 use loads::{EmptyLoad, Fault, Frame, Load, Reading};
 use std::alloc::Global;
 use std::process::Abort;
@@ -18,6 +18,24 @@ const HEXADECIMAL: [(&[u8], &str); 2] = [
 fn octets_in_hexadecimal(rt: HostRuntime) -> Result<(), Fail> {
     for (octets, text) in HEXADECIMAL {
         assert_eq!(rt; hexadecimal(rt.alloc(), octets)?.as_str(), text);
+    }
+    Ok(())
+}
+
+// A text, the octets that are added behind it, and the text then.
+const ADDED: [(&str, &[u8], &str); 3] = [
+    ("", &[0x0A], "0A"),
+    ("put ", &[], "put "),
+    ("put 8", &[0x10, 0xFF], "put 810FF"),
+];
+
+#[test]
+fn octets_are_added_behind_a_text(rt: HostRuntime) -> Result<(), Fail> {
+    for (before, octets, after) in ADDED {
+        let mut text = String::new(rt.alloc());
+        text.push_str(before)?;
+        push_hexadecimal(&mut text, octets)?;
+        assert_eq!(rt; text.as_str(), after);
     }
     Ok(())
 }
