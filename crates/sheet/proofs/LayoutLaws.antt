@@ -1,5 +1,5 @@
 -- The sections of a layout that was read, and the parts that were read of them.
-use Rattle.std.proofs.Common.{◌≡◌, ℕ, ◌+◌, ◌-◌, ◌<◌, ◌≤◌, List, [], ◌∷◌, ◌++◌, length, Ok, Some, take, drop, slice_index, slice_range, subst, refl, ap, sym, ◌∙◌, rules, tests, arith, length-take-le}
+use Rattle.std.proofs.Common.{◌≡◌, ℕ, ◌+◌, ◌-◌, ◌<◌, ◌≤◌, ◌||◌, nat_lt, List, [], ◌∷◌, ◌++◌, length, Ok, Some, None, Option, take, drop, slice_index, slice_range, subst, refl, ap, sym, ◌∙◌, rules, tests, arith, length-take-le}
 use Rattle.std.specs.List.{All}
 use Rattle.std.proofs.lemmas.List.{take-append-drop, append-nil, append_assoc, length-drop}
 use Rattle.std.proofs.lemmas.List.Elements.{All-append, All-drop, All-take, All-weaker}
@@ -8,17 +8,18 @@ use Rattle.loads.specs.declared.kinds.Load.{Ghosts}
 use Rattle.loads.specs.Octets.{number_octets}
 use Rattle.channels.specs.Marks.{most_marks}
 use Rattle.link.specs.Timers.{most_repeats}
+use Rattle.sheet.specs.declared.layouts.LoadKind.{LoadKind}
 use Rattle.sheet.specs.declared.parts.Way.TheVariants.{ToHut, Back}
 use Rattle.sheet.specs.declared.sections.SectionKind.{SectionKind}
 use Rattle.sheet.specs.declared.sections.SectionKind.TheVariants as section
-use Rattle.sheet.specs.Layouts.{LayoutState, trailer_size, most_octets, trailer_place, trailer_of, lists_of, distance, kind_at, repeats_at, load_kind, start_of, book_octets, to_hut_octets, back_octets, calls_octets, sections_of, layout_reads, octets_of}
+use Rattle.sheet.specs.Layouts.{LayoutState, trailer_size, most_octets, trailer_place, trailer_of, lists_of, distance, kind_at, repeats_at, load_kind, start_of, book_octets, to_hut_octets, back_octets, calls_octets, sections_of, layout_of, settings_read, layout_reads, octets_of}
 use Rattle.sheet.specs.Parts.{PartState}
 use Rattle.sheet.specs.Sections.{SectionState, section_of, most_calls, section_reads, sections_read}
 use Rattle.sheet.specs.Sheets.{SheetParts, sheet_read}
 use Rattle.sheet.specs.Spellings.{IsSpelled, Spells, list_of, octets_in, size_in, trailer_spelled}
 use Rattle.sheet.proofs.ListLaws.{lists_are, trailer_back}
 use Rattle.sheet.proofs.OctetLaws.{AreOctets}
-use Rattle.sheet.proofs.RecordLaws.{IsSized, list_number}
+use Rattle.sheet.proofs.RecordLaws.{IsSized, by_test, list_number}
 use Rattle.sheet.proofs.SectionLaws.{AreLaid, IsOf, then_ok, before_ok, section_has, sections_have}
 
 -- distances that fit
@@ -38,16 +39,28 @@ pub record IsRead (octets : List ℕ) (layout : LayoutState) : Type 0 where
   pub sections : layout.sections ≡ sections_of (lists_of octets) (trailer_of octets)
   pub ordered : AreOrdered (length (lists_of octets)) (trailer_of octets)
 
+-- settings that were read, by the kind that a trailer names
+settings_said : (named : Option LoadKind) (lists trailer : List ℕ) (layout : LayoutState) → settings_read named lists trailer ≡ Ok layout
+    → (named ≡ Some layout.kind) × (layout.repeats ≡ slice_index trailer repeats_at)
+settings_said (Some kind) lists trailer layout is =
+    let said : layout_of kind lists trailer ≡ layout = search (rules, tests) in
+    (ap (λ (layout : LayoutState). Some layout.kind) said, ap (λ (layout : LayoutState). layout.repeats) (sym said))
+settings_said None lists trailer layout is = absurd (search rules)
+
 pub layout_read : (octets : List ℕ) (layout : LayoutState) → layout_reads octets ≡ Ok layout → IsRead octets layout
-layout_read octets layout is = record {
-  enough = search (rules, tests);
-  few = search (rules, tests);
-  kind = search (rules, tests);
-  repeats = search (rules, tests);
-  repeats_few = search (rules, tests);
-  sections = search (rules, tests);
-  ordered = record { book = search (rules, tests); to_hut = search (rules, tests); back = search (rules, tests); calls = search (rules, tests) };
-}
+layout_read octets layout is =
+    let (kind, repeats) = by_test (nat_lt (length octets) trailer_size || nat_lt most_octets (length octets)) _ _ (Ok layout) is
+    (λ wrong said. absurd (search (rules, said)))
+    (λ right said. settings_said (load_kind (slice_index (trailer_of octets) kind_at)) (lists_of octets) (trailer_of octets) layout said) in
+    record {
+      enough = search (rules, tests);
+      few = search (rules, tests);
+      kind = kind;
+      repeats = repeats;
+      repeats_few = search (rules, tests);
+      sections = search (rules, tests);
+      ordered = record { book = search (rules, tests); to_hut = search (rules, tests); back = search (rules, tests); calls = search (rules, tests) };
+    }
 
 -- lists that are cut at three places, each behind the one before
 cut_whole : (a b c : ℕ) (lists : List ℕ) → a ≤ b → b ≤ c → take a lists ++ (slice_range lists a b ++ (slice_range lists b c ++ (drop c lists ++ []))) ≡ lists

@@ -38,7 +38,7 @@ IsPlain call = call_spelled call ≡ letter call ∷ []
 -- so is a call that is found by its letter
 plain_found : (octet : ℕ) (call : Call) → plain_call octet ≡ Some call → (letter call ≡ octet) × IsPlain call
 plain_found octet call is =
-    let (same, plain) = found (λ call. letter call == octet) IsPlain plain_calls call is (refl, (refl, (refl, (refl, (refl, (refl, (refl, (refl, (refl, (refl, (refl, tt))))))))))) in
+    let (same, plain) = found (λ call. letter call == octet) IsPlain plain_calls call is (search rules) in
     (search (rules, tests, same), plain)
 
 -- how many octets a call has, by its letter
