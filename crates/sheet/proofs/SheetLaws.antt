@@ -4,11 +4,9 @@ use Rattle.std.proofs.lemmas.List.Elements.{All-from_get_or}
 use Rattle.loads.specs.declared.kinds.Load.{Ghosts}
 use Rattle.loads.specs.Pieces.{pieces}
 use Rattle.loads.specs.Readings.{readings}
-use Rattle.sheet.specs.declared.faults.SheetRefusal.TheVariants.{NoLoad}
 use Rattle.sheet.specs.declared.layouts.LoadKind.{LoadKind}
 use Rattle.sheet.specs.declared.layouts.LoadKind.TheVariants.{Reading, Piece}
-use Rattle.sheet.specs.Conditions.{HasNoLoad, octet_of, HasNoLoadOf, IsFaultOf}
-use Rattle.sheet.specs.Faults.{fault_at}
+use Rattle.sheet.specs.Conditions.{HasNoLoad, octet_of, HasNoLoadOf}
 use Rattle.sheet.specs.Layouts.{LayoutState, kind_at, lists_of, trailer_of, book_octets, layout_reads}
 use Rattle.sheet.specs.Sheets.{SheetParts, sheet_read}
 use Rattle.sheet.specs.Spellings.{IsSpelled}

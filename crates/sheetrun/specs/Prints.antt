@@ -1,7 +1,5 @@
 -- What a sheet prints: a line for each call, or one that says why it is turned down.
-use Rattle.std.specs.Prelude.{ℕ, ◌+◌, ◌<◌, ◌⊎◌, List, ◌++◌, length, take, Ok, Err, Result, codes}
-use Rattle.std.specs.List.{flat_map}
-use Rattle.loads.specs.declared.kinds.Load.{Ghosts}
+use Rattle.std.specs.Prelude.{ℕ, ◌+◌, ◌<◌, ◌⊎◌, List, length, take, Ok, Err, Result}
 use Rattle.loads.specs.Pieces.{pieces}
 use Rattle.loads.specs.Readings.{readings}
 use Rattle.link.specs.declared.events.Event.{Event}
