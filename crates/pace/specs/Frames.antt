@@ -1,13 +1,23 @@
 -- Frames written and read back: what is read, and the text that it comes to.
-use Rattle.std.specs.Prelude.{◌≡◌, ℕ, ◌+◌, ◌*◌, ◌%◌, ◌^◌, List, [], ◌∷◌, ◌++◌, take, fold, Ok, codes, decimal}
+use Rattle.std.specs.Prelude.{◌≡◌, ℕ, ◌+◌, ◌*◌, ◌%◌, ◌^◌, List, [], ◌∷◌, ◌++◌, take, fold, Ok, codes, decimal, not, bit_and, ◌==◌}
 use Rattle.std.specs.Fn.{iterate}
 use Rattle.std.specs.List.{flat_map, range_with_len}
+use Rattle.loads.specs.declared.frames.Frame.{Frame}
 use Rattle.loads.specs.declared.kinds.Load.{Ghosts}
 use Rattle.loads.specs.Frames.{frame_reads}
 use Rattle.loads.specs.Pieces.{pieces}
 use Rattle.loads.specs.Readings.{readings}
 use Rattle.pace.specs.declared.frames.Pair.{Pair}
 use Rattle.pace.specs.declared.frames.Slot.{Slot}
+
+-- a frame of a load, whose bits are the lowest three of a number
+abbrev pub frame_of : {T : Type 0} → ℕ → T → Frame T
+frame_of number load = record {
+  first = not (bit_and number 1 == 0);
+  last = not (bit_and number 2 == 0);
+  toggle = not (bit_and number 4 == 0);
+  load = load;
+}
 
 -- the octets in the room of a frame read as the frame
 abbrev pub HoldsFrame : {T : Type 0} → Ghosts T → Slot T → Type 0

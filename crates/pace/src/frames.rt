@@ -2,7 +2,7 @@
 ghost use Rattle.std.specs.Prelude.{◌≡◌, ◌<◌, IfOk, All, string_bytes, vec_items, fold};
 ghost use Rattle.std.specs.Fn.{iterate};
 ghost use Rattle.std.specs.List.{flat_map};
-ghost use Rattle.pace.specs.Frames.{HoldsFrame, HoldsFrames, fields, fields_of, added, block, added_block, frames_text};
+ghost use Rattle.pace.specs.Frames.{frame_of, HoldsFrame, HoldsFrames, fields, fields_of, added, block, added_block, frames_text};
 
 use loads::{Frame, LONGEST_FRAME, Load, Piece, Reading};
 use std::alloc::{AllocError, Global};
@@ -20,7 +20,7 @@ struct Slot<T> {
 impl<T: Load> Slot<T> {
     // A frame of a load, with bits that change from one number to the next, and empty room.
     fn new(number: u32, load: T) -> Slot<T>
-        ensures answer { result.frame.load ≡ load }
+        ensures answer { result.frame ≡ frame_of number load }
     {
         Slot {
             frame: Frame {

@@ -26,7 +26,7 @@ returns c =
     let made = sym c.unwrap-piece.ensures ∙ c.new.ensures.answer ∙ piece_made 20 c.args.number (c.args.number * 3 % 2 ^ 32) _ _ (held c.args.number c.requires) in
     record {
       answer =
-          (λ i. values (Ok (c.new-2.ensures.answer i)) ++ (c.new-3.ensures.answer i).value ∷ [])
+          (λ i. values (Ok (c.new-2.ensures.answer i).load) ++ (c.new-3.ensures.answer i).load.value ∷ [])
           ∙ ap (λ piece. values piece ++ c.args.number ∷ []) made
           ∙ ap (λ (from : ℕ). from * 0x9E3779B97F4A7C15 % 2 ^ 64 ∷ drop 1 (fields_of c.args.number)) c.from-body.ensures;
     }
