@@ -16,6 +16,22 @@ fn kinds_have_their_numbers_and_lengths(rt: HostRuntime) {
     is_kind::<Piece>(&rt, 2, 19);
 }
 
+#[test]
+fn numbers_and_lengths_are_told_by_pointer(rt: HostRuntime) {
+    let numbers: [fn() -> u8; 3] = [
+        EmptyLoad::kind_number,
+        Reading::kind_number,
+        Piece::kind_number,
+    ];
+    let lengths: [fn() -> usize; 3] = [
+        EmptyLoad::octet_count,
+        Reading::octet_count,
+        Piece::octet_count,
+    ];
+    assert_eq!(rt; numbers.map(|number| number()), [0, 1, 2]);
+    assert_eq!(rt; lengths.map(|length| length()), [0, 4, 19]);
+}
+
 // zoom, column, row, and what making the piece answers
 const EDGES: [(u8, u32, u32, u8); 16] = [
     (0, 0, 0, 0),
