@@ -2,7 +2,7 @@
 use crate::crossings::{closing, opening};
 use channel::{Channel, Full, Poll, Use, Used, make_uses};
 use channels::{Store, Wire};
-use loads::{EmptyLoad, Piece};
+use loads::{EmptyLoad, Piece, Reading};
 use std::test::Fail;
 
 #[test]
@@ -35,6 +35,34 @@ fn uses_are_logged_with_their_answers(rt: HostRuntime) -> Result<(), Fail> {
 }
 
 #[test]
+fn readings_are_logged_with_their_answers(rt: HostRuntime) {
+    let one = opening(Reading { value: 1 });
+    let two = closing(Reading { value: 2 });
+    let uses = [
+        Use::Poll,
+        Use::Put(one),
+        Use::Put(two),
+        Use::Poll,
+        Use::Poll,
+    ];
+    let mut log = [Used::Poll(Poll::Still); 6];
+    let mut store = Store::new();
+    assert_eq!(rt; make_uses(&mut store, &uses, &mut log), 5);
+    assert!(rt; !store.holds());
+    assert_eq!(rt;
+        log,
+        [
+            Used::Poll(Poll::Empty),
+            Used::Put(one, Ok(())),
+            Used::Put(two, Err(Full)),
+            Used::Poll(Poll::Arrived(one)),
+            Used::Poll(Poll::Empty),
+            Used::Poll(Poll::Still),
+        ]
+    );
+}
+
+#[test]
 fn no_more_uses_are_made_than_the_log_has_room_for(rt: HostRuntime) {
     let frame = opening(EmptyLoad);
     let uses = [Use::Put(frame), Use::Poll];
@@ -48,5 +76,19 @@ fn no_more_uses_are_made_than_the_log_has_room_for(rt: HostRuntime) {
     assert_eq!(rt; log, [Used::Put(frame, Ok(()))]);
     assert_eq!(rt; make_uses(&mut store, &[Use::Poll], &mut log), 1);
     assert!(rt; !store.holds());
+    assert_eq!(rt; log, [Used::Poll(Poll::Arrived(frame))]);
+}
+
+#[test]
+fn no_more_readings_are_put_than_the_log_has_room_for(rt: HostRuntime) {
+    let frame = opening(Reading { value: 1 });
+    let uses = [Use::Put(frame), Use::Poll];
+    let mut store = Store::new();
+    let mut log = [Used::Poll(Poll::Still); 1];
+    assert_eq!(rt; make_uses(&mut store, &uses, &mut log[0..0]), 0);
+    assert_eq!(rt; log, [Used::Poll(Poll::Still)]);
+    assert_eq!(rt; make_uses(&mut store, &uses, &mut log), 1);
+    assert_eq!(rt; log, [Used::Put(frame, Ok(()))]);
+    assert_eq!(rt; make_uses(&mut store, &[Use::Poll], &mut log), 1);
     assert_eq!(rt; log, [Used::Poll(Poll::Arrived(frame))]);
 }
